@@ -3,7 +3,7 @@
 
 usage: audit/compare.py PROGRAM [--changed N] [--drawn N] [--seed N] [--keep FOLDER]
 
-First come the cases of `verify` and `check` in crates/tidewise_rows/data, beside what they want, and the certificates that stand in
+First come the cases of `verify` and `check` in crates/tidewise_cases/data, beside what they want, and the certificates that stand in
 examples/ and crates/tidewise/data. Then N of these are changed, or the files that they are about, in lines, words or bytes. Then N
 small problems are drawn, each with a certificate by the program itself, which is tried as it is, changed, and with drawn lines at its
 end. The same seed gives the same files. What differs is printed, and kept in FOLDER if one is named.
@@ -263,9 +263,9 @@ def written(name, text):
 
 
 def cases(comparison, folder):
-    """The cases in crates/tidewise_rows/data: crates/tidewise_rows/src/main.rt has their form."""
-    for topic in sorted(os.listdir("crates/tidewise_rows/data")):
-        with open(f"crates/tidewise_rows/data/{topic}", encoding="utf-8") as file:
+    """The cases in crates/tidewise_cases/data: crates/tidewise_cases/src/main.rt has their form."""
+    for topic in sorted(os.listdir("crates/tidewise_cases/data")):
+        with open(f"crates/tidewise_cases/data/{topic}", encoding="utf-8") as file:
             blocks = re.split("^case .*\n", file.read(), flags=re.MULTILINE)[1:]
         for block in blocks:
             if not re.search("^(?:fail|each|calm|room)", block, re.MULTILINE):

@@ -3,7 +3,7 @@
 
 usage: audit/pictures.py [--write PROGRAM] [--drawn N PROGRAM] [--seed N]
 
-The pictures are those that the cases of crates/tidewise_rows/data want of files that stand there, and the kept ones of docs/ and
+The pictures are those that the cases of crates/tidewise_cases/data want of files that stand there, and the kept ones of docs/ and
 examples/. With --write all of them are first written anew, as a built program draws them: after a change of the rules. Then every
 case is compared, also one whose certificate the program makes. With --drawn the program draws N random ports and flat problems,
 and plans and clashes of them, too; the same seed gives the same ones. The last line says how many pictures were compared, and how many
@@ -26,7 +26,7 @@ import chart_repair
 from compare import flat_drawn, port_drawn, text_of, written
 
 TOP = os.path.dirname(os.path.dirname(os.path.abspath(__file__)))
-CASES = os.path.join(TOP, "crates/tidewise_rows/data")
+CASES = os.path.join(TOP, "crates/tidewise_cases/data")
 # Each kept picture: the folder of its files, and the words after `chart`.
 KEPT = {
     "docs/day.svg": ("crates/tidewise/data", "port day waters day.cert"),

@@ -187,7 +187,7 @@ def is_law(kind, text):
 
 def dependencies(listed):
     """Each crate of crates.txt with the crates that it may name."""
-    rows = (row.partition(":") for row in listed.read_text().splitlines())
+    rows = (row.partition(":") for row in listed.read_text().splitlines() if row and not row.startswith("#"))
     return {crate: names.split() for crate, _, names in rows}
 
 

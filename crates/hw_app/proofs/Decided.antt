@@ -10,7 +10,7 @@ use Rattle.hw_subject.specs.Decided.{IsDecided, DecidedBy}
 use Rattle.hw_subject.specs.Texts.{cert_report}
 use Rattle.hw_subject.proofs.Decided.{subjects_decided_law}
 use Rattle.hw_subject.proofs.Reports.{certificates_decide_law}
-use Rattle.hw_check_command.proofs.Renewed.{renewed_as_checked_law}
+use Rattle.hw_command_check.proofs.Renewed.{renewed_as_checked_law}
 use Rattle.hw_app.specs.LawsOfReports.{CheckOf, RenewalOf}
 use Rattle.hw_app.specs.Told.{IsTold}
 use Rattle.hw_app.proofs.Told.{all_told, moved, refused_alike}

@@ -6,13 +6,13 @@ use Rattle.std.proofs.lemmas.List.Elements.{All-head, All-tail}
 use Rattle.hw_model.specs.Limits.{IsFlat}
 use Rattle.hw_model.specs.Problem.{Problem, shape_of}
 use Rattle.hw_model.specs.Timetables.{cargo}
-use Rattle.hw_lines.specs.declared.check.Refusal.{Refusal}
-use Rattle.hw_lines.specs.declared.check.Verdict.{Verdict}
-use Rattle.hw_lines.specs.declared.line.Line.{Line}
-use Rattle.hw_lines.specs.Tolled.{bound_of}
-use Rattle.hw_lines.specs.Valid.{LineFits, Valid, ValidFrom, verdict}
-use Rattle.hw_verdict.proofs.Refused.{from_valid, valid_judge}
-use Rattle.hw_verdict.proofs.Staying.{valid_append}
+use Rattle.hw_cert_lines.specs.declared.check.Refusal.{Refusal}
+use Rattle.hw_cert_lines.specs.declared.check.Verdict.{Verdict}
+use Rattle.hw_cert_lines.specs.declared.line.Line.{Line}
+use Rattle.hw_cert_lines.specs.Tolled.{bound_of}
+use Rattle.hw_cert_lines.specs.Valid.{LineFits, Valid, ValidFrom, verdict}
+use Rattle.hw_cert_laws.proofs.Refused.{from_valid, valid_judge}
+use Rattle.hw_cert_laws.proofs.Staying.{valid_append}
 use Rattle.hw_cert.specs.Laws.{has_form}
 use Rattle.hw_cert.specs.Spelled.{is_within}
 use Rattle.hw_cert.specs.Stream.{complete, CertLines, cert_stream_to}
@@ -27,10 +27,10 @@ use Rattle.hw_command.specs.declared.outcome.CertOutcome.TheVariants.{Shows}
 use Rattle.hw_subject.specs.Meanings.{repaired_problem, repair_ships}
 use Rattle.hw_subject.specs.Subjects.{topic_subject}
 use Rattle.hw_subject.proofs.Modelled.{subjects_modelled_law}
-use Rattle.hw_search_command.specs.Certified.{IsCertificate, head_verdict, searched_head}
-use Rattle.hw_search_command.specs.Searchers.{searcher_of}
-use Rattle.hw_search_command.specs.declared.searcher.Search.{Search}
-use Rattle.hw_search_command.specs.declared.searcher.Search.TheVariants.{Solve, Prove, Crew}
+use Rattle.hw_command_search.specs.Certified.{IsCertificate, head_verdict, searched_head}
+use Rattle.hw_command_search.specs.Searchers.{searcher_of}
+use Rattle.hw_command_search.specs.declared.searcher.Search.{Search}
+use Rattle.hw_command_search.specs.declared.searcher.Search.TheVariants.{Solve, Prove, Crew}
 use Rattle.hw_subject.specs.Texts.{cert_report}
 use Rattle.hw_app.specs.LawsOfSearches.{PassesLimit, IsShownAs, OwnReport, verdict_with}
 use Rattle.hw_app.proofs.Decided.{checked_at}

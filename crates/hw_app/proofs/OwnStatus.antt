@@ -19,11 +19,11 @@ use Rattle.hw_command.proofs.PortForms.{by_fault}
 use Rattle.hw_subject.specs.Meanings.{judged, repaired_problem}
 use Rattle.hw_subject.specs.Subjects.{Origin, Topic, flat_text, port_of, origin_subject, repaired_by, topic_subject}
 use Rattle.hw_subject.proofs.Modelled.{subjects_modelled_law}
-use Rattle.hw_search_command.specs.Certified.{IsCertificate, head_verdict, searched_head}
-use Rattle.hw_search_command.specs.Searchers.{searcher_of}
-use Rattle.hw_search_command.specs.Searches.{SearchSays}
-use Rattle.hw_search_command.specs.declared.searcher.Search.{Search}
-use Rattle.hw_search_command.specs.declared.searcher.Search.TheVariants.{Solve, Prove, Crew}
+use Rattle.hw_command_search.specs.Certified.{IsCertificate, head_verdict, searched_head}
+use Rattle.hw_command_search.specs.Searchers.{searcher_of}
+use Rattle.hw_command_search.specs.Searches.{SearchSays}
+use Rattle.hw_command_search.specs.declared.searcher.Search.{Search}
+use Rattle.hw_command_search.specs.declared.searcher.Search.TheVariants.{Solve, Prove, Crew}
 use Rattle.hw_subject.specs.Checks.{Checks, CheckSays, check_task}
 use Rattle.hw_app.specs.LawsOfSearches.{AnswerOf, CheckAfter, EndsAlike, IsOverlong, IsShownAs, OwnStatus, PassesLimit, is_answer, check_after}
 use Rattle.hw_app.specs.Run.{CommandMeets}

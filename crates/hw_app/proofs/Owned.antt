@@ -4,18 +4,18 @@ use Rattle.std.specs.List.{AllByRecursion, list_all}
 use Rattle.std.proofs.lemmas.Bool.{and_parts}
 use Rattle.std.proofs.lemmas.List.Elements.{All-nil, All-cons, All-head, All-tail, All-append}
 use Rattle.hw_model.specs.Problem.{Problem, shape_of}
-use Rattle.hw_lines.specs.declared.check.Refusal.{Refusal}
+use Rattle.hw_cert_lines.specs.declared.check.Refusal.{Refusal}
 use Rattle.hw_model.specs.declared.lit.Lit.{Lit}
-use Rattle.hw_lines.specs.declared.line.Line.{Line}
-use Rattle.hw_lines.specs.declared.line.Line.TheVariants as kinds
-use Rattle.hw_lines.specs.Lines.{clause_of}
-use Rattle.hw_lines.specs.Tolled.{is_plain}
-use Rattle.hw_lines.specs.Refusals.{refusal}
-use Rattle.hw_lines.specs.Valid.{LineFits, ValidFrom, Valid, verdict}
-use Rattle.hw_lines.specs.declared.check.Verdict.{Verdict}
-use Rattle.hw_verdict.specs.Renewing.{last_named, never_named, deletion, deletions, undeleting, next_number, renewed_from, renewed}
-use Rattle.hw_verdict.proofs.Fitting.{renewing_keeps}
-use Rattle.hw_verdict.proofs.Refused.{plain_judge, from_valid, valid_from}
+use Rattle.hw_cert_lines.specs.declared.line.Line.{Line}
+use Rattle.hw_cert_lines.specs.declared.line.Line.TheVariants as kinds
+use Rattle.hw_cert_lines.specs.Lines.{clause_of}
+use Rattle.hw_cert_lines.specs.Tolled.{is_plain}
+use Rattle.hw_cert_lines.specs.Refusals.{refusal}
+use Rattle.hw_cert_lines.specs.Valid.{LineFits, ValidFrom, Valid, verdict}
+use Rattle.hw_cert_lines.specs.declared.check.Verdict.{Verdict}
+use Rattle.hw_cert_laws.specs.Renewing.{last_named, never_named, deletion, deletions, undeleting, next_number, renewed_from, renewed}
+use Rattle.hw_cert_laws.proofs.Fitting.{renewing_keeps}
+use Rattle.hw_cert_laws.proofs.Refused.{plain_judge, from_valid, valid_from}
 use Rattle.hw_cert.specs.declared.stop.FormWord.{FormWord}
 use Rattle.hw_cert.specs.declared.version.Version.{Version}
 use Rattle.hw_cert.specs.declared.version.Version.TheVariants.{Two}

@@ -4,7 +4,7 @@ use Rattle.hw_desk.specs.declared.desk.Feed.{Feed}
 use Rattle.hw_desk.specs.declared.desk.Feed.TheVariants as feeds
 use Rattle.hw_model.specs.Limits.{IsFlat}
 use Rattle.hw_model.specs.Problem.{shape_of}
-use Rattle.hw_lines.specs.declared.line.Line.{Line}
+use Rattle.hw_cert_lines.specs.declared.line.Line.{Line}
 use Rattle.hw_cert.specs.declared.version.Version.TheVariants.{Two}
 use Rattle.hw_cert.specs.Stream.{overlong, cert_stream}
 use Rattle.hw_cert.specs.Texts.{cert_text}
@@ -16,10 +16,10 @@ use Rattle.hw_report.specs.Texts.{report_text}
 use Rattle.hw_command.specs.Values.{most_bytes}
 use Rattle.hw_command.specs.declared.outcome.CertOutcome.{CertOutcome}
 use Rattle.hw_command.specs.declared.outcome.CertOutcome.TheVariants.{Shows}
-use Rattle.hw_clash_command.specs.Asked.{asked_by}
-use Rattle.hw_clash_command.specs.Found.{IsClashTold}
-use Rattle.hw_clash_command.specs.Texts.{clash_report, report_of_part, clash_text_report}
-use Rattle.hw_clash_command.proofs.Decided.{flat_is, plan_is, text_within}
+use Rattle.hw_command_clash.specs.Asked.{asked_by}
+use Rattle.hw_command_clash.specs.Found.{IsClashTold}
+use Rattle.hw_command_clash.specs.Texts.{clash_report, report_of_part, clash_text_report}
+use Rattle.hw_command_clash.proofs.Decided.{flat_is, plan_is, text_within}
 use Rattle.hw_app.specs.LawsOfClashes.{OwnClash}
 use Rattle.hw_app.proofs.Owned.{own_certificate}
 

@@ -2,7 +2,7 @@
 use Rattle.std.proofs.Common.{◌≡◌, ◌⊎◌, ◌∙◌, ℕ, List, Option, inl, inr, refl, sym, ap}
 use Rattle.hw_desk.specs.declared.desk.Feed.{Feed}
 use Rattle.hw_model.specs.Problem.{Problem, shape_of}
-use Rattle.hw_lines.specs.Tolled.{bound_of}
+use Rattle.hw_cert_lines.specs.Tolled.{bound_of}
 use Rattle.hw_cert.specs.declared.version.Version.{Version}
 use Rattle.hw_cert.specs.declared.version.Version.TheVariants.{Two, Three}
 use Rattle.hw_cert.specs.Stream.{CertLines, cert_stream, cert_stream_to}
@@ -15,17 +15,17 @@ use Rattle.hw_subject.specs.Decided.{DecidedBy, IsDecided, IsReported as IsRepor
 use Rattle.hw_subject.specs.Texts.{cert_report}
 use Rattle.hw_subject.proofs.Decided.{subjects_decided_law}
 use Rattle.hw_subject.proofs.SameLines.{stream_same}
-use Rattle.hw_chart_command.specs.Texts.{cert_chart}
-use Rattle.hw_chart_command.proofs.Decided.{DrawnBy, decided as chart_decided}
-use Rattle.hw_chart_command.proofs.Verified.{alike, checked_by}
-use Rattle.hw_clash_command.specs.Asked.{asked}
-use Rattle.hw_clash_command.specs.Inputs.{clash_feed}
-use Rattle.hw_clash_command.specs.Texts.{asked_report, clash_text_report}
-use Rattle.hw_clash_command.proofs.Decided.{decided as clash_decided}
-use Rattle.hw_clash_command.proofs.Inputs.{clashable}
-use Rattle.hw_listing_command.specs.Listings.{flat_text_of, restriction_words}
-use Rattle.hw_listing_command.proofs.Decided.{one_listing_law}
-use Rattle.hw_listing_command.proofs.OfPort.{explains_as_listed_law, flattens_as_listed_law}
+use Rattle.hw_command_chart.specs.Texts.{cert_chart}
+use Rattle.hw_command_chart.proofs.Decided.{DrawnBy, decided as chart_decided}
+use Rattle.hw_command_chart.proofs.Verified.{alike, checked_by}
+use Rattle.hw_command_clash.specs.Asked.{asked}
+use Rattle.hw_command_clash.specs.Inputs.{clash_feed}
+use Rattle.hw_command_clash.specs.Texts.{asked_report, clash_text_report}
+use Rattle.hw_command_clash.proofs.Decided.{decided as clash_decided}
+use Rattle.hw_command_clash.proofs.Inputs.{clashable}
+use Rattle.hw_command_texts.specs.Listings.{flat_text_of, restriction_words}
+use Rattle.hw_command_texts.proofs.Decided.{one_listing_law}
+use Rattle.hw_command_texts.proofs.OfPort.{explains_as_listed_law, flattens_as_listed_law}
 use Rattle.hw_app.specs.LawsOfReports.{ChartOf, ClashCheckOf, OneCertificateReport, OneReportOfChart, OneReportOfClash, OneFlatText, PrintedBounds, VerifiedAsChecked, ChartsBytesAsVerified, ChartsBytesAsChecked}
 use Rattle.hw_app.specs.Told.{itself}
 use Rattle.hw_app.proofs.Decided.{Last, IsReported, as_check, by_cert, carried, check_reported, one_across, one_check}

@@ -4,10 +4,10 @@ use Rattle.std.specs.Prelude.{IfSome, option_and_then}
 use Rattle.hw_model.specs.Limits.{IsFlat}
 use Rattle.hw_model.specs.Problem.{Problem, shape_of}
 use Rattle.hw_model.specs.Timetables.{cargo}
-use Rattle.hw_lines.specs.declared.check.Verdict.{Verdict}
-use Rattle.hw_lines.specs.declared.line.Line.{Line}
-use Rattle.hw_lines.specs.Tolled.{bound_of}
-use Rattle.hw_lines.specs.Valid.{verdict}
+use Rattle.hw_cert_lines.specs.declared.check.Verdict.{Verdict}
+use Rattle.hw_cert_lines.specs.declared.line.Line.{Line}
+use Rattle.hw_cert_lines.specs.Tolled.{bound_of}
+use Rattle.hw_cert_lines.specs.Valid.{verdict}
 use Rattle.hw_cert.specs.declared.version.Version.TheVariants.{Three}
 use Rattle.hw_cert.specs.Stream.{CertLines, cert_stream_to}
 use Rattle.hw_cert.proofs.Formed.{third_formed}
@@ -21,9 +21,9 @@ use Rattle.hw_subject.specs.Meanings.{repaired_problem, repair_ships}
 use Rattle.hw_subject.specs.Subjects.{topic_subject}
 use Rattle.hw_subject.specs.Texts.{cert_report}
 use Rattle.hw_subject.proofs.Modelled.{subjects_modelled_law}
-use Rattle.hw_search_command.specs.Certified.{head_verdict, searched_head}
-use Rattle.hw_search_command.specs.Resumes.{IsLonger}
-use Rattle.hw_search_command.specs.declared.searcher.Search.TheVariants.{Prove}
+use Rattle.hw_command_search.specs.Certified.{head_verdict, searched_head}
+use Rattle.hw_command_search.specs.Resumes.{IsLonger}
+use Rattle.hw_command_search.specs.declared.searcher.Search.TheVariants.{Prove}
 use Rattle.hw_app.specs.LawsOfResumptions.{ResumedReport}
 use Rattle.hw_app.specs.LawsOfSearches.{IsShownAs, PassesLimit, verdict_with}
 use Rattle.hw_app.proofs.Decided.{checked_at}

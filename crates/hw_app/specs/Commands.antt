@@ -1,15 +1,15 @@
 -- A command, with its names and numbers.
 use Rattle.std.specs.Prelude.{ℕ, ◌≤◌, List, ◌∷◌, Option, Some, None, Result, Ok, Err, ⊤}
 use Rattle.hw_desk.specs.declared.desk.Feed.TheVariants as feed
-use Rattle.hw_linear.specs.declared.format.Format.{Format}
-use Rattle.hw_linear.specs.declared.format.Format.TheVariants.{Lp, Opb}
-use Rattle.hw_progress.specs.declared.limits.TheConstants.{MOST_BUDGET}
-use Rattle.hw_splitting.specs.declared.chosen.TheConstants.{MOST_PARTS}
+use Rattle.hw_flat_programme.specs.declared.format.Format.{Format}
+use Rattle.hw_flat_programme.specs.declared.format.Format.TheVariants.{Lp, Opb}
+use Rattle.hw_search_laws.specs.declared.limits.TheConstants.{MOST_BUDGET}
+use Rattle.hw_split_choice.specs.declared.chosen.TheConstants.{MOST_PARTS}
 use Rattle.hw_subject.specs.Subjects.{Origin, Topic, flat_text, port_of, origin_seen, plainly, topic_seen}
-use Rattle.hw_search_command.specs.Orders.{order_in}
-use Rattle.hw_search_command.specs.declared.searcher.Search.{Search}
-use Rattle.hw_search_command.specs.declared.searcher.Search.TheVariants.{Solve, Prove, Crew}
-use Rattle.hw_search_command.specs.Demo.{CanDraw}
+use Rattle.hw_command_search.specs.Orders.{order_in}
+use Rattle.hw_command_search.specs.declared.searcher.Search.{Search}
+use Rattle.hw_command_search.specs.declared.searcher.Search.TheVariants.{Solve, Prove, Crew}
+use Rattle.hw_command_search.specs.Demo.{CanDraw}
 use Rattle.hw_app.specs.Forms.{form_of_words, name_in_words, number_in_words, word_in, wanted_words}
 use Rattle.hw_app.specs.declared.command.Command.{Command as Told}
 use Rattle.hw_app.specs.declared.command.Command.TheVariants as told

@@ -3,10 +3,10 @@ use Rattle.std.specs.Prelude.{ℕ, ◌+◌, ◌==◌, ◌&&◌, List, [], ◌∷
 use Rattle.hw_desk.specs.State.{same_feed}
 use Rattle.hw_desk.specs.declared.desk.Feed.TheVariants as feed
 use Rattle.hw_text.specs.Numbers.{number_from_to}
-use Rattle.hw_progress.specs.declared.limits.TheConstants.{MOST_BUDGET}
-use Rattle.hw_splitting.specs.declared.chosen.TheConstants.{MOST_PARTS}
-use Rattle.hw_search_command.specs.Orders.{order_read}
-use Rattle.hw_search_command.specs.Demo.{most_ships, most_slots}
+use Rattle.hw_search_laws.specs.declared.limits.TheConstants.{MOST_BUDGET}
+use Rattle.hw_split_choice.specs.declared.chosen.TheConstants.{MOST_PARTS}
+use Rattle.hw_command_search.specs.Orders.{order_read}
+use Rattle.hw_command_search.specs.Demo.{most_ships, most_slots}
 use Rattle.hw_app.specs.declared.form.Form.{Form}
 use Rattle.hw_app.specs.declared.form.Form.TheVariants.{SolveFlat, SolvePort, ProveFlat, ProvePort, ProveFlatSeed, ProvePortSeed, ResumeFlat, ResumePort, SplitFlat, SplitPort, PartFlat, PartPort, JoinFlat, JoinPort, CheckFlat, CheckPort, VerifyFlat, VerifyPort, ChartFlat, ChartPort, ChartRepairFlat, ChartRepairPort, ChartClashPort, TablePort, TableRepairPort, RenewFlat, RenewPort, CrewFlat, CrewPort, RepairFlat, RepairPort, ProveRepairFlat, ProveRepairPort, ProveRepairFlatSeed, ProveRepairPortSeed, CheckRepair, CheckRepairPort, VerifyRepairFlat, VerifyRepairPort, ExplainRepairFlat, ExplainRepairPort, ClashFlat, ClashPort, ClashRepairFlat, ClashRepairPort, CheckClash, CheckClashPort, CheckClashRepairFlat, CheckClashRepairPort, ExplainPort, WindowsPort, Lint, ModelFlat, ModelPort, OpbFlat, OpbPort, AuditPort, CarryPort, Flatten, Demo}
 use Rattle.hw_app.specs.declared.wanted.Keyword.{Keyword as KeywordOf}

@@ -3,10 +3,10 @@ use Rattle.std.specs.Prelude.{◌≡◌, ◌⊎◌, List, ℕ, true, Ok, All}
 use Rattle.hw_model.specs.Limits.{IsFlat}
 use Rattle.hw_model.specs.Problem.{Problem, shape_of}
 use Rattle.hw_desk.specs.State.{DeskState}
-use Rattle.hw_lines.specs.declared.line.Line.{Line}
-use Rattle.hw_lines.specs.declared.check.Verdict.{Verdict}
-use Rattle.hw_lines.specs.Tolled.{is_plain}
-use Rattle.hw_lines.specs.Valid.{LineFits, Valid, verdict}
+use Rattle.hw_cert_lines.specs.declared.line.Line.{Line}
+use Rattle.hw_cert_lines.specs.declared.check.Verdict.{Verdict}
+use Rattle.hw_cert_lines.specs.Tolled.{is_plain}
+use Rattle.hw_cert_lines.specs.Valid.{LineFits, Valid, verdict}
 use Rattle.hw_cert.specs.declared.version.Version.{Version}
 use Rattle.hw_cert.specs.declared.version.Version.TheVariants.{Two}
 use Rattle.hw_cert.specs.Certs.{cert_read}
@@ -16,7 +16,7 @@ use Rattle.hw_command.specs.Causes.{FaultsCaused}
 use Rattle.hw_command.specs.Certificates.{cert_outcome}
 use Rattle.hw_command.specs.declared.outcome.CertOutcome.TheVariants.{Shows}
 use Rattle.hw_command.specs.declared.status.Status.{Status}
-use Rattle.hw_check_command.specs.Renewing.{renewed_text}
+use Rattle.hw_command_check.specs.Renewing.{renewed_text}
 use Rattle.hw_app.specs.Run.{RunMeets}
 
 -- a fault comes only where the count of its kind rose, whatever the words

@@ -3,7 +3,7 @@ use Rattle.std.specs.Prelude.{◌≡◌, ◌≤◌, ◌⊎◌, List, ℕ, Some, 
 use Rattle.hw_desk.specs.declared.desk.Feed.{Feed}
 use Rattle.hw_model.specs.Limits.{IsFlat}
 use Rattle.hw_model.specs.Problem.{Problem, shape_of}
-use Rattle.hw_lines.specs.declared.line.Line.{Line}
+use Rattle.hw_cert_lines.specs.declared.line.Line.{Line}
 use Rattle.hw_cert.specs.declared.version.Version.TheVariants.{Two}
 use Rattle.hw_cert.specs.Stream.{overlong, cert_stream}
 use Rattle.hw_cert.specs.Texts.{cert_text}
@@ -14,9 +14,9 @@ use Rattle.hw_report.specs.Reports.{clashed, clash_holds}
 use Rattle.hw_report.specs.Texts.{report_text}
 use Rattle.hw_command.specs.Values.{most_bytes, IsProblemText}
 use Rattle.hw_subject.specs.Plans.{IsPlanText}
-use Rattle.hw_clash_command.specs.Asked.{asked_by, tugs_left}
-use Rattle.hw_clash_command.specs.Found.{IsClashTold}
-use Rattle.hw_clash_command.specs.Texts.{clash_text_report, texts_clash_report}
+use Rattle.hw_command_clash.specs.Asked.{asked_by, tugs_left}
+use Rattle.hw_command_clash.specs.Found.{IsClashTold}
+use Rattle.hw_command_clash.specs.Texts.{clash_text_report, texts_clash_report}
 
 -- a clash that was found, of wishes too, as it is printed, and the text of its certificate: the report is that the clash holds, unless the certificate passes a limit
 pub record OwnClash : Type 0 where

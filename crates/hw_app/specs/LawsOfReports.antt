@@ -1,7 +1,7 @@
 -- The laws of reports: what is told decides them, whatever the names and the desk.
 use Rattle.std.specs.Prelude.{◌≡◌, ◌⊎◌, ℕ, List, Option, Some}
 use Rattle.hw_desk.specs.State.{DeskState}
-use Rattle.hw_lines.specs.declared.check.Verdict.{Verdict}
+use Rattle.hw_cert_lines.specs.declared.check.Verdict.{Verdict}
 use Rattle.hw_cert.specs.declared.version.Version.{Version}
 use Rattle.hw_cert.specs.declared.version.Version.TheVariants.{Two, Three}
 use Rattle.hw_report.specs.Reports.{Report, Naming, checked}
@@ -9,12 +9,12 @@ use Rattle.hw_subject.specs.Meanings.{IsBoundOf, own_worth}
 use Rattle.hw_subject.specs.Subjects.{Subject, Topic, topic_subject}
 use Rattle.hw_subject.specs.Checks.{Checks}
 use Rattle.hw_subject.specs.Decided.{AllTold, NamesThird}
-use Rattle.hw_check_command.specs.Renews.{Renews}
-use Rattle.hw_chart_command.specs.Charts.{Charts}
-use Rattle.hw_chart_command.specs.Laws.{IsChartOf}
-use Rattle.hw_clash_command.specs.CheckClash.{ClashChecks}
-use Rattle.hw_listing_command.specs.ExplainPort.{ExplainsTexts}
-use Rattle.hw_listing_command.specs.Flattening.{FlattensTexts}
+use Rattle.hw_command_check.specs.Renews.{Renews}
+use Rattle.hw_command_chart.specs.Charts.{Charts}
+use Rattle.hw_command_chart.specs.Laws.{IsChartOf}
+use Rattle.hw_command_clash.specs.CheckClash.{ClashChecks}
+use Rattle.hw_command_texts.specs.ExplainPort.{ExplainsTexts}
+use Rattle.hw_command_texts.specs.Flattening.{FlattensTexts}
 use Rattle.hw_app.specs.Told.{IsTold}
 
 -- no two reports are said

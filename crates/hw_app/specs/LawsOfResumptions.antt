@@ -8,7 +8,7 @@ use Rattle.hw_report.specs.Reports.{Report, Naming, solved}
 use Rattle.hw_report.specs.declared.report.Head.{Head}
 use Rattle.hw_subject.specs.Meanings.{repaired_problem}
 use Rattle.hw_subject.specs.Subjects.{Topic, topic_subject}
-use Rattle.hw_search_command.specs.Resumes.{ResumeSays}
+use Rattle.hw_command_search.specs.Resumes.{ResumeSays}
 use Rattle.hw_app.specs.LawsOfReports.{CheckOf}
 use Rattle.hw_app.specs.LawsOfSearches.{IsShownAs, PassesLimit}
 use Rattle.hw_app.specs.Told.{IsTold}

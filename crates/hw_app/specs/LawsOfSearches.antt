@@ -4,7 +4,7 @@ use Rattle.hw_model.specs.Problem.{Problem, shape_of}
 use Rattle.hw_model.specs.Timetables.{cargo}
 use Rattle.hw_desk.specs.State.{DeskState}
 use Rattle.hw_desk.specs.declared.desk.Tray.TheVariants.{Proof}
-use Rattle.hw_lines.specs.declared.check.Verdict.{Verdict}
+use Rattle.hw_cert_lines.specs.declared.check.Verdict.{Verdict}
 use Rattle.hw_cert.specs.declared.version.Version.{Version}
 use Rattle.hw_cert.specs.Stream.{overlong, cert_stream_to}
 use Rattle.hw_report.specs.Reports.{Report, Naming, checked, solved}
@@ -14,11 +14,11 @@ use Rattle.hw_command.specs.declared.status.Status.{Status}
 use Rattle.hw_command.specs.declared.status.Status.TheVariants as status
 use Rattle.hw_subject.specs.Meanings.{judged, repaired_problem, repair_ships}
 use Rattle.hw_subject.specs.Subjects.{Topic, topic_subject}
-use Rattle.hw_search_command.specs.Certified.{head_verdict, own_bound, searched_head}
-use Rattle.hw_search_command.specs.Searchers.{searcher_of}
-use Rattle.hw_search_command.specs.Searches.{SearchSays}
-use Rattle.hw_search_command.specs.declared.searcher.Search.{Search}
-use Rattle.hw_search_command.specs.declared.searcher.Search.TheVariants.{Solve, Prove, Crew}
+use Rattle.hw_command_search.specs.Certified.{head_verdict, own_bound, searched_head}
+use Rattle.hw_command_search.specs.Searchers.{searcher_of}
+use Rattle.hw_command_search.specs.Searches.{SearchSays}
+use Rattle.hw_command_search.specs.declared.searcher.Search.{Search}
+use Rattle.hw_command_search.specs.declared.searcher.Search.TheVariants.{Solve, Prove, Crew}
 use Rattle.hw_app.specs.Commands.{Command, search, check, verify, command_in}
 use Rattle.hw_app.specs.declared.form.Form.TheVariants.{ProveFlat, ProvePort, ProveFlatSeed, ProvePortSeed, ProveRepairFlat, ProveRepairPort, ProveRepairFlatSeed, ProveRepairPortSeed}
 use Rattle.hw_app.specs.LawsOfReports.{CheckOf}

@@ -8,25 +8,25 @@ use Rattle.hw_command.specs.Carries.{Task, Carries}
 use Rattle.hw_command.specs.Ends.{Ends}
 use Rattle.hw_command.specs.declared.status.Status.{Status}
 use Rattle.hw_subject.specs.Subjects.{origin_subject, repair_of, topic_subject}
-use Rattle.hw_search_command.specs.Searchers.{searcher_of}
-use Rattle.hw_split_command.specs.Joining.{join_task}
-use Rattle.hw_split_command.specs.Parting.{part_task}
-use Rattle.hw_split_command.specs.Splitting.{split_task}
-use Rattle.hw_search_command.specs.Resumes.{resume_task}
-use Rattle.hw_search_command.specs.Searches.{search_task}
+use Rattle.hw_command_search.specs.Searchers.{searcher_of}
+use Rattle.hw_command_split.specs.Joining.{join_task}
+use Rattle.hw_command_split.specs.Parting.{part_task}
+use Rattle.hw_command_split.specs.Splitting.{split_task}
+use Rattle.hw_command_search.specs.Resumes.{resume_task}
+use Rattle.hw_command_search.specs.Searches.{search_task}
 use Rattle.hw_subject.specs.Checks.{check_task}
-use Rattle.hw_check_command.specs.Renews.{renew_task}
-use Rattle.hw_chart_command.specs.Charts.{chart_task}
-use Rattle.hw_repair_command.specs.Explains.{explain_repair_task}
-use Rattle.hw_clash_command.specs.Clashes.{clash_task}
-use Rattle.hw_clash_command.specs.CheckClash.{check_clash_task}
-use Rattle.hw_clash_chart_command.specs.Charts.{chart_clash_task}
-use Rattle.hw_listing_command.specs.Listings.{explain_port_task, flatten_task, model_task, windows_task}
-use Rattle.hw_lint_command.specs.Lints.{lint_task}
-use Rattle.hw_listing_command.specs.Tables.{table_task}
-use Rattle.hw_audit_command.specs.AuditPort.{audit_port_task}
-use Rattle.hw_audit_command.specs.CarryPort.{carry_port_task}
-use Rattle.hw_search_command.specs.Demo.{demo_task}
+use Rattle.hw_command_check.specs.Renews.{renew_task}
+use Rattle.hw_command_chart.specs.Charts.{chart_task}
+use Rattle.hw_command_texts.specs.Explains.{explain_repair_task}
+use Rattle.hw_command_clash.specs.Clashes.{clash_task}
+use Rattle.hw_command_clash.specs.CheckClash.{check_clash_task}
+use Rattle.hw_command_chart.specs.ClashCharts.{chart_clash_task}
+use Rattle.hw_command_texts.specs.Listings.{explain_port_task, flatten_task, model_task, windows_task}
+use Rattle.hw_command_texts.specs.Lints.{lint_task}
+use Rattle.hw_command_texts.specs.Tables.{table_task}
+use Rattle.hw_command_audit.specs.AuditPort.{audit_port_task}
+use Rattle.hw_command_audit.specs.CarryPort.{carry_port_task}
+use Rattle.hw_command_search.specs.Demo.{demo_task}
 use Rattle.hw_app.specs.Commands.{Command, search, resume, split, part, join, check, verify, renew, chart, chart_clash, table, explain_repair, clash, check_clash, explain, windows, lint, model, audit, carry, flatten, demo, command_of}
 
 -- what a command has to do

@@ -1,9 +1,9 @@
 //! A command, with its names and numbers.
 
 use hw_command::PortNames;
-use hw_linear::Format;
-use hw_search_command::{Draw, Search};
-use hw_split_command::{PartWords, SplitWords};
+use hw_command_search::{Draw, Search};
+use hw_command_split::{PartWords, SplitWords};
+use hw_flat_programme::Format;
 use hw_subject::{Source, Subject};
 
 /// What a run is to do. The names are those of a desk's feeds and of Proof, and a budget is in lemmas.

@@ -7,19 +7,18 @@ ghost use Rattle.hw_app.specs.Run.{RunMeets};
 
 use crate::command::Command;
 use crate::words::read_command;
-use hw_audit_command::{audit_port, carry_port};
-use hw_chart_command::chart;
-use hw_check_command::{check, renew, verify};
-use hw_clash_chart_command::chart_clash;
-use hw_clash_command::{check_clash, clash};
 use hw_command::{Status, finish};
+use hw_command_audit::{audit_port, carry_port};
+use hw_command_chart::{chart, chart_clash};
+use hw_command_check::{check, renew, verify};
+use hw_command_clash::{check_clash, clash};
+use hw_command_search::{demo, resume_subject, search_subject};
+use hw_command_split::{join_subject, part_subject, split_subject};
+use hw_command_texts::{
+    explain_port, explain_repair, flatten_port, lint_port, list_model, list_table, list_windows,
+};
 use hw_desk::Desk;
-use hw_lint_command::lint_port;
-use hw_listing_command::{explain_port, flatten_port, list_model, list_table, list_windows};
-use hw_repair_command::explain_repair;
 use hw_report::Report;
-use hw_search_command::{demo, resume_subject, search_subject};
-use hw_split_command::{join_subject, part_subject, split_subject};
 use std::alloc::Global;
 
 /// Does what the words say over a desk on which nothing was begun or made, and sends its report.

@@ -5,8 +5,8 @@ ghost use Rattle.hw_app.specs.Forms.{keyword_text, least_of, most_of};
 
 use hw_desk::Feed;
 use hw_model::{MOST_SHIPS, MOST_SLOTS};
-use hw_progress::MOST_BUDGET;
-use hw_splitting::MOST_PARTS;
+use hw_search_laws::MOST_BUDGET;
+use hw_split_choice::MOST_PARTS;
 
 /// A word that stands for itself.
 #[derive(Clone, Copy, PartialEq, Eq)]

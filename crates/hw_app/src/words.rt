@@ -1,9 +1,9 @@
 //! The words of the command line, read by the table of forms.
 
 ghost use Rattle.std.specs.Prelude.{◌≡◌, ◌≤◌, IfOk, length, map, string_bytes};
-ghost use Rattle.hw_search_command.specs.Orders.{order_in};
+ghost use Rattle.hw_command_search.specs.Orders.{order_in};
 ghost use Rattle.hw_subject.specs.Subjects.{origin_seen, plan_seen, topic_seen};
-ghost use Rattle.hw_search_command.specs.Demo.{CanDraw};
+ghost use Rattle.hw_command_search.specs.Demo.{CanDraw};
 ghost use Rattle.hw_app.specs.Commands.{KeepsLimits, command_by, command_in, command_of, command_seen, origin_in, part_in, read_seen, search_in, topic_in};
 ghost use Rattle.hw_app.specs.Forms.{agreed, first_fitting, form_of_words, furthest, is_value, least_of, most_of, name_in_words, number_in_words, takes_word, word_in, word_where};
 
@@ -14,11 +14,11 @@ use crate::form::{
 };
 use crate::wanted::{Quantity, Value, Wanted, keyword_text, least_of, most_of};
 use hw_command::PortNames;
+use hw_command_search::{Draw, Order, Search};
+use hw_command_split::{PartWords, SplitWords};
 use hw_desk::Feed;
-use hw_linear::Format;
+use hw_flat_programme::Format;
 use hw_search::Branching;
-use hw_search_command::{Draw, Order, Search};
-use hw_split_command::{PartWords, SplitWords};
 use hw_subject::{Source, Subject};
 use hw_text::read_small;
 

@@ -6,9 +6,9 @@ use Rattle.std.proofs.lemmas.List.Elements.{All-weaker}
 use Rattle.hw_model.specs.Problem.{Problem, IsTimetable}
 use Rattle.hw_port.specs.Whole.{Parts}
 use Rattle.hw_tide.specs.Levels.{TideParts}
-use Rattle.hw_port_rules.specs.Flattened.{flattened}
-use Rattle.hw_port_rules.specs.Numbers.{horizon_of, some_may_stay}
-use Rattle.hw_port_rules.specs.Timetables.{IsPortTimetable}
+use Rattle.hw_port_model.specs.Flattened.{flattened}
+use Rattle.hw_port_model.specs.Numbers.{horizon_of, some_may_stay}
+use Rattle.hw_port_model.specs.Timetables.{IsPortTimetable}
 use Rattle.hw_audit.specs.Laws.{SameTimetables}
 use Rattle.hw_audit.specs.Watching.{watched, IsWatched}
 

@@ -7,9 +7,9 @@ use Rattle.std.proofs.lemmas.List.FromFn.{length-range_with_len, get_or-range_wi
 use Rattle.std.proofs.lemmas.List.Kept.{IsStrictlyIncreasing-filter}
 use Rattle.std.specs.List.{range_with_len}
 use Rattle.hw_lemmas.proofs.Lists.{range_ascends}
-use Rattle.hw_derived.specs.Fleets.{lessened_rule, lessened}
-use Rattle.hw_derived.proofs.Fleets.{lessened_fits as fleet_fits, same_problem}
-use Rattle.hw_laws.proofs.Broken.{permits_from, from_permits}
+use Rattle.hw_plan_texts.specs.Fleets.{lessened_rule, lessened}
+use Rattle.hw_plan_texts.proofs.Fleets.{lessened_fits as fleet_fits, same_problem}
+use Rattle.hw_model_laws.proofs.Broken.{permits_from, from_permits}
 use Rattle.hw_model.specs.Timetables.{Permits, restriction_holds, restriction_count}
 use Rattle.hw_audit.specs.Watching.{watched, is_broken}
 use Rattle.hw_audit.specs.Laws.{NoneBroken, NoneBrokenFirst, LessenedFits, BrokenExactly}

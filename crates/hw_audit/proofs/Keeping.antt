@@ -13,7 +13,7 @@ use Rattle.hw_model.specs.Problem.{Problem, horizon, value_at}
 use Rattle.hw_model.specs.Rules.{held_by, pair_holds}
 use Rattle.hw_model.specs.Timetables.{restriction_holds, holds_at}
 use Rattle.hw_audit.specs.declared.marks.Concern.TheVariants.{Ship, Fleet}
-use Rattle.hw_derived.specs.Fleets.{lessened, lessened_rule}
+use Rattle.hw_plan_texts.specs.Fleets.{lessened, lessened_rule}
 use Rattle.hw_audit.specs.Keeping.{TugsComeLast, jobs_of_tug_rule, last_jobs, AreHeld, holds_now, decided_by_held_tugs, concerns, AreMarks, AreOtherMarks, kept_holds}
 
 -- ---- each rule decided

@@ -7,3 +7,7 @@ pub mod PortRules
 pub mod Begun
 pub mod Listed
 pub mod Ports
+pub mod Days
+pub mod Values
+pub mod Meeting
+pub mod Reading

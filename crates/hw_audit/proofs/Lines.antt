@@ -7,7 +7,7 @@ use Rattle.hw_text.proofs.Splits.{has_part}
 use Rattle.hw_audit.specs.declared.fault.AuditWord.{AuditWord}
 use Rattle.hw_audit.specs.declared.event.PortEvent.{PortEvent}
 use Rattle.hw_audit.specs.declared.fault.AuditWord.TheVariants as words
-use Rattle.hw_derived.specs.Reading.{MalformedLine, malformed_line}
+use Rattle.hw_plan_texts.specs.Reading.{MalformedLine, malformed_line}
 use Rattle.hw_audit.specs.Text.{event_form, event_before, events_at}
 
 abbrev Read : Type 0

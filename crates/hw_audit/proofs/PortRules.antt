@@ -11,8 +11,8 @@ use Rattle.hw_port.specs.declared.parts.BerthPair.{BerthPair}
 use Rattle.hw_port.specs.declared.parts.AfterPair.{AfterPair}
 use Rattle.hw_port.specs.Parts.{ShipParts}
 use Rattle.hw_port.specs.Whole.{Parts}
-use Rattle.hw_port_rules.specs.Flattened.{holes_of, pair_rule, pairs_with, pairs_from, berth_rule, after_rule, jobs_from, tug_rule, rules_of}
-use Rattle.hw_port_rules.specs.Numbers.{whole}
+use Rattle.hw_port_model.specs.Flattened.{holes_of, pair_rule, pairs_with, pairs_from, berth_rule, after_rule, jobs_from, tug_rule, rules_of}
+use Rattle.hw_port_model.specs.Numbers.{whole}
 use Rattle.hw_audit.specs.Keeping.{TugsComeLast}
 
 abbrev pub On2 : Rule → Type 0

@@ -8,16 +8,16 @@ use Rattle.hw_model.specs.declared.rule.Rule.{Rule}
 use Rattle.hw_model.specs.declared.rule.Rule.TheVariants.{Pair, After, Tugs}
 use Rattle.hw_model.specs.Problem.{Problem, IsTimetable}
 use Rattle.hw_model.specs.Timetables.{Permits}
-use Rattle.hw_derived.specs.Fleets.{lessened_rule, lessened}
+use Rattle.hw_plan_texts.specs.Fleets.{lessened_rule, lessened}
 use Rattle.hw_port.specs.Kept.{Within, ShipKept, PortKept}
 use Rattle.hw_port.specs.Parts.{ShipParts}
 use Rattle.hw_port.specs.Whole.{Parts}
 use Rattle.hw_tide.specs.Levels.{TideParts}
 use Rattle.hw_port_laws.proofs.Permits.{same_permitted_law}
 use Rattle.hw_port_laws.proofs.Wholes.{within}
-use Rattle.hw_port_rules.specs.Flattened.{pairs_from, berth_rule, after_rule, jobs_from, tug_rule, flattened}
-use Rattle.hw_port_rules.specs.Numbers.{whole}
-use Rattle.hw_port_rules.specs.Permitted.{PortPermits}
+use Rattle.hw_port_model.specs.Flattened.{pairs_from, berth_rule, after_rule, jobs_from, tug_rule, flattened}
+use Rattle.hw_port_model.specs.Numbers.{whole}
+use Rattle.hw_port_model.specs.Permitted.{PortPermits}
 use Rattle.hw_audit.specs.Laws.{fewer_tugs, NonePortBroken, NonePortBrokenAfter}
 use Rattle.hw_audit.specs.Watching.{Watched, watched, IsWatched, after_all, broken_now}
 use Rattle.hw_audit.proofs.Begun.{of_port, watched_first}

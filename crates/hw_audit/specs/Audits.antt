@@ -6,8 +6,8 @@ use Rattle.hw_model.specs.Limits.{IsFlat}
 use Rattle.hw_model.specs.Timetables.{restriction_count}
 use Rattle.hw_port.specs.Whole.{Parts}
 use Rattle.hw_tide.specs.Levels.{TideParts}
-use Rattle.hw_port_rules.specs.Flattened.{flattened}
-use Rattle.hw_port_rules.specs.Numbers.{whole}
+use Rattle.hw_port_model.specs.Flattened.{flattened}
+use Rattle.hw_port_model.specs.Numbers.{whole}
 use Rattle.hw_audit.specs.declared.event.PortEvent.{PortEvent}
 use Rattle.hw_audit.specs.declared.fault.AuditWord.{AuditWord}
 use Rattle.hw_audit.specs.Keeping.{AuditIsKept, kept_holds}

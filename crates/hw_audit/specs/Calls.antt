@@ -3,7 +3,7 @@ use Rattle.std.specs.Prelude.{◌≡◌, ℕ, pos, List, [], ◌∷◌, None, So
 use Rattle.hw_port.specs.Parts.{ShipParts}
 use Rattle.hw_port.specs.Whole.{Parts}
 use Rattle.hw_tide.specs.Levels.{TideParts}
-use Rattle.hw_port_rules.specs.Flattened.{flattened}
+use Rattle.hw_port_model.specs.Flattened.{flattened}
 use Rattle.hw_audit.specs.declared.event.PortEvent.{PortEvent}
 use Rattle.hw_audit.specs.declared.event.PortEvent.TheVariants.{Delayed}
 use Rattle.hw_audit.specs.Watching.{watched, after_all, first_refused, broken_now}

@@ -8,7 +8,7 @@ use Rattle.hw_model.specs.Problem.{Problem, horizon, value_at}
 use Rattle.hw_model.specs.Rules.{held_by, rule_holds}
 use Rattle.hw_audit.specs.declared.marks.Concern.{Concern}
 use Rattle.hw_audit.specs.declared.marks.Concern.TheVariants.{Every, Ship, Fleet}
-use Rattle.hw_derived.specs.Fleets.{lessened, lessened_rule}
+use Rattle.hw_plan_texts.specs.Fleets.{lessened, lessened_rule}
 use Rattle.hw_audit.specs.Watching.{Watched}
 
 -- ---- tugs

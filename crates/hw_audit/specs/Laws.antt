@@ -1,17 +1,17 @@
 -- The laws of a timetable that is watched.
 use Rattle.std.specs.Prelude.{◌≡◌, ◌↔◌, ℕ, ◌-◌, ◌<◌, pos, false, List, [], None, Contains}
 use Rattle.std.specs.List.Sorted.{IsStrictlyIncreasing}
-use Rattle.hw_derived.specs.Fleets.{lessened}
+use Rattle.hw_plan_texts.specs.Fleets.{lessened}
 use Rattle.hw_model.specs.Problem.{Problem, IsTimetable}
 use Rattle.hw_model.specs.Limits.{IsFlat}
 use Rattle.hw_model.specs.Timetables.{Permits, restriction_count, restriction_holds}
 use Rattle.hw_port.specs.Kept.{PortKept}
 use Rattle.hw_port.specs.Whole.{Parts}
 use Rattle.hw_tide.specs.Levels.{TideParts}
-use Rattle.hw_port_rules.specs.Flattened.{flattened}
-use Rattle.hw_port_rules.specs.Numbers.{whole}
-use Rattle.hw_port_rules.specs.Permitted.{PortPermits}
-use Rattle.hw_port_rules.specs.Timetables.{IsPortTimetable}
+use Rattle.hw_port_model.specs.Flattened.{flattened}
+use Rattle.hw_port_model.specs.Numbers.{whole}
+use Rattle.hw_port_model.specs.Permitted.{PortPermits}
+use Rattle.hw_port_model.specs.Timetables.{IsPortTimetable}
 use Rattle.hw_audit.specs.declared.event.PortEvent.{PortEvent}
 use Rattle.hw_audit.specs.Watching.{Watched, watched, IsWatched, refused_event, watched_after, after_all, first_refused, broken_now}
 

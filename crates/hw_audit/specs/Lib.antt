@@ -6,3 +6,6 @@ pub mod Laws
 pub mod Text
 pub mod Calls
 pub mod Rows
+pub mod Carried
+pub mod CarriedLaws
+pub mod CarriedRows

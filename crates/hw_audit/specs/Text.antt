@@ -2,8 +2,8 @@
 use Rattle.std.specs.Prelude.{ℕ, ◌+◌, List, [], ◌∷◌, Option, Some, None, Result, Ok, codes, bytes_eq, option_map, length, if◌then◌else◌}
 use Rattle.hw_lemmas.specs.Operators.{◌>>=◌}
 use Rattle.hw_model.specs.declared.shape.Shape.{Shape}
-use Rattle.hw_derived.specs.Reading.{MalformedLine, malformed_line, formed_line, formed_line_at, only_at, ended_at}
-use Rattle.hw_derived.specs.Slots.{slots_form}
+use Rattle.hw_plan_texts.specs.Reading.{MalformedLine, malformed_line, formed_line, formed_line_at, only_at, ended_at}
+use Rattle.hw_plan_texts.specs.Slots.{slots_form}
 use Rattle.hw_text.specs.Numbers.{number_up_to, number_from_to}
 use Rattle.hw_text.specs.Parts.{parts_of, words_of}
 use Rattle.hw_audit.specs.declared.event.PortEvent.{PortEvent}

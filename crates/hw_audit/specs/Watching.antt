@@ -1,7 +1,7 @@
 -- A timetable that is watched: what events change, which are refused, and what is broken now.
 use Rattle.std.specs.Prelude.{◌≡◌, ℕ, ◌+◌, ◌-◌, ◌≤◌, Bool, true, false, ◌&&◌, not, nat_lt, if◌then◌else◌, List, [], ◌∷◌, length, filter, fold, replicate, Option, Some, None, slice_index, slice_index_or, slice_set}
 use Rattle.std.specs.List.{range_with_len}
-use Rattle.hw_derived.specs.Fleets.{lessened}
+use Rattle.hw_plan_texts.specs.Fleets.{lessened}
 use Rattle.hw_model.specs.Problem.{Problem, IsTimetable, horizon, stays}
 use Rattle.hw_model.specs.Timetables.{restriction_count, restriction_holds}
 use Rattle.hw_audit.specs.declared.event.PortEvent.{PortEvent}

@@ -2,8 +2,8 @@
 
 ghost use Rattle.std.specs.Prelude.{◌≡◌, ◌<◌, ◌≤◌, length, IfOk, None};
 ghost use Rattle.hw_model.specs.Problem.{horizon};
-ghost use Rattle.hw_port_rules.specs.Numbers.{whole};
-ghost use Rattle.hw_port_rules.specs.Timetables.{IsPortTimetable};
+ghost use Rattle.hw_port_model.specs.Numbers.{whole};
+ghost use Rattle.hw_port_model.specs.Timetables.{IsPortTimetable};
 ghost use Rattle.hw_audit.specs.Audits.{Applies, audited, in_state, with_slot, with_withdrawn};
 ghost use Rattle.hw_audit.specs.Watching.{refused_event, watched_after, broken_now};
 

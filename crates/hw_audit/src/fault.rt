@@ -3,7 +3,7 @@
 ghost use Rattle.std.specs.Prelude.{◌≡◌, codes};
 ghost use Rattle.hw_audit.specs.Words.{audit_word_text};
 
-use hw_derived::LineFault;
+use hw_plan_texts::LineFault;
 
 /// What the first bad line should have been, or why an event is refused.
 #[derive(Clone, Copy)]

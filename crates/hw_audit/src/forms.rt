@@ -5,8 +5,8 @@ ghost use Rattle.hw_model.specs.Limits.{ShapeFits};
 ghost use Rattle.hw_audit.specs.Text.{timetable_form, any_number, count_form, sailed_words, delayed_words, withdrawn_event_words, back_words, event_form};
 
 use crate::event::PortEvent;
-use hw_derived::slots_of;
 use hw_model::{Shape, Slot};
+use hw_plan_texts::slots_of;
 use hw_text::{Words, is_text, read_small};
 use std::alloc::{AllocError, Global};
 

@@ -1,8 +1,14 @@
-//! Watching a plan: after each event of a port, which restrictions the timetable now breaks.
+//! Watching a plan: after each event of a port, which restrictions the timetable now breaks; and the plan
+//! that a timetable and the events of a day so far leave, in which ships that have sailed keep their slots
+//! and the others may be given any slot that the events leave.
+//!
+//! The plan's text is put piece by piece, and takes no memory.
 #![tactic(auto)]
 
 mod applying;
 mod audit;
+mod carried;
+mod carrying;
 mod event;
 mod fault;
 mod forms;
@@ -13,6 +19,8 @@ mod reading;
 mod tugs;
 
 pub use audit::Audit;
+pub use carried::{carried_reads, carried_rows, keeps_the_day};
+pub use carrying::put_carried;
 pub use event::{Events, PortEvent};
 pub use fault::{AuditWord, TextFault};
 pub use laws::{

@@ -3,15 +3,15 @@
 ghost use Rattle.std.specs.Prelude.{◌≡◌, ◌<◌, ◌≤◌, ◌+◌, IfOk, All, length};
 ghost use Rattle.hw_text.specs.Parts.{parts_of};
 ghost use Rattle.hw_model.specs.Limits.{ShapeFits};
-ghost use Rattle.hw_derived.specs.Reading.{TextReadGives};
+ghost use Rattle.hw_plan_texts.specs.Reading.{TextReadGives};
 ghost use Rattle.hw_audit.specs.Text.{timetable_of_lines, timetable_of_text, events_at, events_of, events_text};
 
 use crate::event::{Events, PortEvent};
 use crate::fault::{AuditWord, TextFault};
 use crate::forms::{event_of, table_of};
-use hw_derived::{LineFault, line_of, only};
 use hw_flat::Timetable;
 use hw_model::Shape;
+use hw_plan_texts::{LineFault, line_of, only};
 use hw_text::{cut_line, is_end, is_text};
 use std::alloc::Global;
 

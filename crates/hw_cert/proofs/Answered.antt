@@ -16,8 +16,8 @@ use Rattle.hw_cert.specs.Stream.{Cut, whole, long, line_passes_limit, cut_of, Ne
 use Rattle.hw_cert.specs.Reader.{ReaderModel, ReaderKeeps}
 use Rattle.hw_cert.specs.Taking.{TakesLine}
 use Rattle.hw_cert.specs.Nexts.{rest_of, next_line, StopsAs, Answers, GoesOn, TakesNextLine, TakesHeader}
-use Rattle.hw_lines.specs.Valid.{LineFits}
-use Rattle.hw_lines.specs.declared.line.Line.{Line}
+use Rattle.hw_cert_lines.specs.Valid.{LineFits}
+use Rattle.hw_cert_lines.specs.declared.line.Line.{Line}
 use Rattle.hw_cert.specs.declared.reader.Next.{Next}
 use Rattle.hw_cert.specs.declared.reader.Next.TheVariants as nexts
 use Rattle.hw_cert.specs.declared.stop.FormWord.{FormWord}

@@ -13,8 +13,8 @@ use Rattle.hw_cert.specs.Texts.{lit_text, line_text}
 use Rattle.hw_cert.specs.Spelled.{number_word, both_values, all_numbers, some_numbers, Lits, lits_of, only_lits, table_form, explain_form, order_form, goal_form, hinted_form, lemma_form, delete_form, narrows_form, tugs_form, tariff_form, priced_form, bound_form, form_of, spelled_line, spelled}
 use Rattle.hw_cert.specs.Fits.{line_read}
 use Rattle.hw_cert.specs.Laws.{lit_numbers, line_numbers, wide_numbers, has_form, is_small, is_wide, IsLine}
-use Rattle.hw_lines.specs.declared.line.Line.{Line}
-use Rattle.hw_lines.specs.declared.line.Line.TheVariants as lines
+use Rattle.hw_cert_lines.specs.declared.line.Line.{Line}
+use Rattle.hw_cert_lines.specs.declared.line.Line.TheVariants as lines
 use Rattle.hw_cert.specs.declared.version.Version.{Version}
 use Rattle.hw_cert.specs.declared.version.Version.TheVariants.{One, Two, Three}
 use Rattle.hw_cert.proofs.WordBytes.{both_on}

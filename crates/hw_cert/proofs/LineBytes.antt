@@ -5,10 +5,10 @@ use Rattle.std.proofs.lemmas.List.Folds.{list_all-append}
 use Rattle.std.specs.Prelude.{codes}
 use Rattle.std.specs.List.{list_all, flat_map}
 use Rattle.hw_text.specs.Parts.{lacks}
-use Rattle.hw_lines.specs.declared.line.Line.{Line}
-use Rattle.hw_lines.specs.declared.line.Line.TheVariants as lines
-use Rattle.hw_tolls.specs.declared.tariff.Due.{Due}
-use Rattle.hw_tolls.specs.declared.toll.Toll.TheVariants as tolls
+use Rattle.hw_cert_lines.specs.declared.line.Line.{Line}
+use Rattle.hw_cert_lines.specs.declared.line.Line.TheVariants as lines
+use Rattle.hw_price_laws.specs.declared.tariff.Due.{Due}
+use Rattle.hw_price_laws.specs.declared.toll.Toll.TheVariants as tolls
 use Rattle.hw_cert.specs.Texts.{lit_text, block_text, price_text, line_words}
 use Rattle.hw_cert.specs.Laws.{lit_numbers, line_numbers, wide_numbers, is_small, is_wide}
 use Rattle.hw_cert.proofs.WordBytes.{both_on, differs, number_lacks, small_parts, numbers_lack, lits_lack}

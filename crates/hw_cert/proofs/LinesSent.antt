@@ -2,7 +2,7 @@
 use Rattle.std.proofs.Common.{◌≡◌, ◌<◌, ◌+◌, ℕ, List, [], ◌∷◌, ◌++◌, map, take, length, get_or, refl, sym, ap, ◌∙◌, append_assoc}
 use Rattle.std.proofs.lemmas.List.{take_more}
 use Rattle.hw_text.specs.Parts.{ended_lines}
-use Rattle.hw_lines.specs.declared.line.Line.{Line}
+use Rattle.hw_cert_lines.specs.declared.line.Line.{Line}
 use Rattle.hw_cert.specs.Texts.{line_text}
 
 ended_more : (all : List Line) (line : Line) → ended_lines (map line_text (all ++ line ∷ [])) ≡ ended_lines (map line_text all) ++ (line_text line ++ 10 ∷ [])

@@ -11,13 +11,13 @@ use Rattle.hw_cert.specs.Fits.{word_unless, lit_fault, clause_fault, ascends, ri
 use Rattle.hw_cert.specs.Spelled.{spelled}
 use Rattle.std.specs.List.Sorted.{IsStrictlyIncreasing}
 use Rattle.hw_lemmas.specs.Operators.{◌or_else◌}
-use Rattle.hw_tolls.specs.declared.toll.Block.{Block}
-use Rattle.hw_tolls.specs.Tolls.{BlockFits}
-use Rattle.hw_lines.specs.Valid.{LineFits}
-use Rattle.hw_tolls.specs.declared.tariff.Due.{Due}
-use Rattle.hw_tolls.specs.declared.toll.Toll.TheVariants as tolls
-use Rattle.hw_lines.specs.declared.line.Line.{Line}
-use Rattle.hw_lines.specs.declared.line.Line.TheVariants as lines
+use Rattle.hw_price_laws.specs.declared.toll.Block.{Block}
+use Rattle.hw_price_laws.specs.Tolls.{BlockFits}
+use Rattle.hw_cert_lines.specs.Valid.{LineFits}
+use Rattle.hw_price_laws.specs.declared.tariff.Due.{Due}
+use Rattle.hw_price_laws.specs.declared.toll.Toll.TheVariants as tolls
+use Rattle.hw_cert_lines.specs.declared.line.Line.{Line}
+use Rattle.hw_cert_lines.specs.declared.line.Line.TheVariants as lines
 use Rattle.hw_cert.specs.declared.stop.FormWord.{FormWord}
 use Rattle.hw_cert.specs.declared.stop.FormWord.TheVariants.{Form, Range}
 use Rattle.hw_cert.specs.declared.version.Version.{Version}

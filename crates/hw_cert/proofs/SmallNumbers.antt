@@ -10,7 +10,7 @@ use Rattle.hw_model.specs.declared.shape.Shape.{Shape}
 use Rattle.hw_model.specs.Limits.{IsFlat}
 use Rattle.hw_model.specs.Lits.{BadLit, lit_fits, keeps_form, first_bad, first_bad_from}
 use Rattle.hw_model.specs.Problem.{Problem, shape_of}
-use Rattle.hw_laws.proofs.Horizon.{few_slots}
+use Rattle.hw_model_laws.proofs.Horizon.{few_slots}
 use Rattle.hw_cert.specs.Fits.{ascends}
 use Rattle.hw_cert.specs.Laws.{lit_numbers, is_small}
 use Rattle.hw_cert.proofs.WordBytes.{both_on}

@@ -2,7 +2,7 @@
 use Rattle.std.proofs.Common.{◌≡◌, ℕ, true, List, ◌∷◌, ◌++◌, map, Option, Some, None, sym, ap, ◌∙◌, append-nil}
 use Rattle.std.specs.List.{list_all, flat_map}
 use Rattle.hw_model.specs.declared.lit.Lit.{Lit}
-use Rattle.hw_lines.specs.declared.line.Line.{Line}
+use Rattle.hw_cert_lines.specs.declared.line.Line.{Line}
 use Rattle.hw_cert.specs.declared.version.Version.{Version}
 use Rattle.hw_cert.specs.Texts.{lit_text, line_words}
 use Rattle.hw_cert.specs.Spelled.{Lits, lits_of, unparted, only_lits}

@@ -5,7 +5,7 @@ use Rattle.hw_cert.specs.Fits.{line_read}
 use Rattle.hw_cert.specs.Spelled.{version_to}
 use Rattle.hw_cert.specs.Stream.{Position, Cut, nothing, whole, unended, long, line_passes_limit, cut_of, tail_cut, past_line, line_by, line_next, header_by, header_next, next_by, next_of, CertLines, onward, lines_from, lines_by, lines_after, stream_by, stream_of}
 use Rattle.hw_cert.specs.Laws.{following}
-use Rattle.hw_lines.specs.declared.line.Line.{Line}
+use Rattle.hw_cert_lines.specs.declared.line.Line.{Line}
 use Rattle.hw_cert.specs.declared.stop.FormWord.{FormWord}
 use Rattle.hw_cert.specs.declared.version.Version.{Version}
 

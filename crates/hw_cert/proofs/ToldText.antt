@@ -8,9 +8,9 @@ use Rattle.std.specs.List.{list_all, join_with_byte}
 use Rattle.hw_lemmas.proofs.Truths.{chosen}
 use Rattle.hw_text.specs.Parts.{parts_of, lacks, ended_lines}
 use Rattle.hw_text.proofs.Joins.{parts_lack}
-use Rattle.hw_tolls.specs.declared.toll.Toll.TheVariants.{Narrows}
-use Rattle.hw_lines.specs.declared.line.Line.{Line}
-use Rattle.hw_lines.specs.declared.line.Line.TheVariants.{Table, Delete, Toll}
+use Rattle.hw_price_laws.specs.declared.toll.Toll.TheVariants.{Narrows}
+use Rattle.hw_cert_lines.specs.declared.line.Line.{Line}
+use Rattle.hw_cert_lines.specs.declared.line.Line.TheVariants.{Table, Delete, Toll}
 use Rattle.hw_cert.specs.declared.version.Version.TheVariants.{Two, Three}
 use Rattle.hw_cert.specs.Texts.{line_text, certificate_header}
 use Rattle.hw_cert.specs.Spelled.{spelled}

@@ -4,13 +4,13 @@ use Rattle.std.proofs.lemmas.Bool.{and_parts}
 use Rattle.std.specs.Prelude.{option_map, option_and_then}
 use Rattle.std.specs.List.{list_all}
 use Rattle.hw_model.specs.declared.lit.Lit.{Lit}
-use Rattle.hw_tolls.specs.declared.tariff.Due.{Due}
-use Rattle.hw_tolls.specs.declared.tariff.Tariff.{Tariff}
-use Rattle.hw_tolls.specs.declared.toll.Block.{Block}
-use Rattle.hw_tolls.specs.declared.toll.Toll.{Toll}
-use Rattle.hw_lines.specs.declared.line.Line.{Line}
-use Rattle.hw_lines.specs.declared.line.Line.TheVariants as lines
-use Rattle.hw_tolls.specs.declared.toll.Toll.TheVariants as tolls
+use Rattle.hw_price_laws.specs.declared.tariff.Due.{Due}
+use Rattle.hw_price_laws.specs.declared.tariff.Tariff.{Tariff}
+use Rattle.hw_price_laws.specs.declared.toll.Block.{Block}
+use Rattle.hw_price_laws.specs.declared.toll.Toll.{Toll}
+use Rattle.hw_cert_lines.specs.declared.line.Line.{Line}
+use Rattle.hw_cert_lines.specs.declared.line.Line.TheVariants as lines
+use Rattle.hw_price_laws.specs.declared.toll.Toll.TheVariants as tolls
 use Rattle.hw_cert.specs.declared.version.Version.{Version}
 use Rattle.hw_cert.specs.declared.version.Version.TheVariants.{One, Two, Three}
 use Rattle.hw_cert.specs.Texts.{block_text, price_text}

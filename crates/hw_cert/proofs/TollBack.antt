@@ -2,9 +2,9 @@
 use Rattle.std.proofs.Common.{◌≡◌, cond, nat_lt, ℕ, Bool, true, false, List, [], ◌∷◌, length, map, decimal, Option, Some, None, refl, ap, ◌∙◌, subst}
 use Rattle.std.specs.Prelude.{codes, option_and_then}
 use Rattle.std.specs.List.{list_all}
-use Rattle.hw_lines.specs.declared.line.Line.{Line}
-use Rattle.hw_lines.specs.declared.line.Line.TheVariants as lines
-use Rattle.hw_tolls.specs.declared.tariff.Due.{Due}
+use Rattle.hw_cert_lines.specs.declared.line.Line.{Line}
+use Rattle.hw_cert_lines.specs.declared.line.Line.TheVariants as lines
+use Rattle.hw_price_laws.specs.declared.tariff.Due.{Due}
 use Rattle.hw_cert.specs.declared.version.Version.{Version}
 use Rattle.hw_cert.specs.declared.version.Version.TheVariants.{One, Two, Three}
 use Rattle.hw_cert.specs.Spelled.{number_word, wide_word, both_values, all_numbers, all_of, some_of, block_word, price_word, only_lits, third, narrows_line, tugs_line, tariff_line, narrows_form, tug_toll_words, tugs_form, tariff_words, tariff_form, priced_form, bound_words, bound_form}

@@ -5,8 +5,8 @@ use Rattle.std.proofs.lemmas.Fmt.{digits_decimal}
 use Rattle.std.specs.List.{list_all, flat_map}
 use Rattle.hw_text.specs.Parts.{lacks}
 use Rattle.hw_text.proofs.Digits.{own}
-use Rattle.hw_tolls.specs.declared.toll.Block.{Block}
-use Rattle.hw_tolls.specs.declared.tariff.Due.{Due}
+use Rattle.hw_price_laws.specs.declared.toll.Block.{Block}
+use Rattle.hw_price_laws.specs.declared.tariff.Due.{Due}
 use Rattle.hw_cert.specs.Texts.{block_text, price_text}
 use Rattle.hw_cert.specs.Laws.{block_numbers, is_small, is_wide}
 use Rattle.hw_cert.proofs.WordBytes.{both_on, differs, digits_lack, number_lacks, lacks_append, two_small, small_parts}

@@ -7,10 +7,10 @@ use Rattle.std.specs.List.{list_all, flat_map}
 use Rattle.std.specs.List.Sorted.{IsStrictlyIncreasing}
 use Rattle.hw_model.specs.Limits.{IsFlat}
 use Rattle.hw_model.specs.Problem.{Problem, shape_of}
-use Rattle.hw_laws.proofs.Horizon.{few_slots}
-use Rattle.hw_tolls.specs.declared.toll.Block.{Block}
-use Rattle.hw_tolls.specs.Tolls.{BlockFits}
-use Rattle.hw_tolls.specs.declared.tariff.Due.{Due}
+use Rattle.hw_model_laws.proofs.Horizon.{few_slots}
+use Rattle.hw_price_laws.specs.declared.toll.Block.{Block}
+use Rattle.hw_price_laws.specs.Tolls.{BlockFits}
+use Rattle.hw_price_laws.specs.declared.tariff.Due.{Due}
 use Rattle.hw_cert.specs.Fits.{rises, block_fits_shape}
 use Rattle.hw_cert.specs.Laws.{block_numbers, is_small, is_wide}
 use Rattle.hw_cert.proofs.WordBytes.{both_on}

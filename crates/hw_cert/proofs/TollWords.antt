@@ -13,8 +13,8 @@ use Rattle.hw_text.proofs.Digits.{own}
 use Rattle.hw_text.proofs.Joins.{one_part, part_before}
 use Rattle.hw_text.proofs.Spelled.{is_spelled, reads_back}
 use Rattle.hw_flat.specs.TextForms.{put_first}
-use Rattle.hw_tolls.specs.declared.toll.Block.{Block}
-use Rattle.hw_tolls.specs.declared.tariff.Due.{Due}
+use Rattle.hw_price_laws.specs.declared.toll.Block.{Block}
+use Rattle.hw_price_laws.specs.declared.tariff.Due.{Due}
 use Rattle.hw_cert.specs.Texts.{block_text, price_text}
 use Rattle.hw_cert.specs.Spelled.{number_word, wide_word, both_values, all_of, block_parts, block_word, price_parts, price_word}
 use Rattle.hw_cert.specs.Laws.{block_numbers, is_small, is_wide}

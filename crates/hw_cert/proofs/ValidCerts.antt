@@ -1,7 +1,7 @@
 -- The text of valid lines as a certificate.
 use Rattle.std.proofs.Common.{◌≡◌, ◌⊎◌, List, [], Result, Ok, inl, inr, refl, sym, ap}
 use Rattle.hw_model.specs.Problem.{shape_of}
-use Rattle.hw_lines.specs.declared.line.Line.{Line}
+use Rattle.hw_cert_lines.specs.declared.line.Line.{Line}
 use Rattle.hw_cert.specs.declared.version.Version.{Version}
 use Rattle.hw_cert.specs.declared.version.Version.TheVariants.{Three}
 use Rattle.hw_cert.specs.Texts.{cert_text}

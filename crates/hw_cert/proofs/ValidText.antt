@@ -8,20 +8,20 @@ use Rattle.hw_lemmas.specs.Operators.{◌or_else◌}
 use Rattle.hw_model.specs.declared.lit.Lit.{Lit}
 use Rattle.hw_model.specs.Limits.{IsFlat}
 use Rattle.hw_model.specs.Problem.{Problem, shape_of}
-use Rattle.hw_laws.proofs.Horizon.{few_slots}
-use Rattle.hw_lines.specs.declared.line.Line.{Line}
-use Rattle.hw_lines.specs.declared.line.Line.TheVariants as lines
-use Rattle.hw_lines.specs.Lines.{clause_of, clause_count, live}
-use Rattle.hw_lines.specs.Valid.{LineFits, ValidAfter, ValidFrom}
-use Rattle.hw_lines.proofs.Pushed.{one_more}
-use Rattle.hw_lines.proofs.Deleted.{live_in}
-use Rattle.hw_lines.proofs.Priced.{AreTolls, tolls_more, no_tolls}
-use Rattle.hw_tolls.specs.declared.tariff.Due.{Due}
-use Rattle.hw_lines.specs.Tolled.{tolls_of}
-use Rattle.hw_tolls.specs.declared.toll.Block.{Block}
-use Rattle.hw_tolls.specs.Tolls.{BlockFits}
-use Rattle.hw_tolls.specs.declared.toll.Toll.TheVariants as tolls
-use Rattle.hw_lines.proofs.Live.{live_above}
+use Rattle.hw_model_laws.proofs.Horizon.{few_slots}
+use Rattle.hw_cert_lines.specs.declared.line.Line.{Line}
+use Rattle.hw_cert_lines.specs.declared.line.Line.TheVariants as lines
+use Rattle.hw_cert_lines.specs.Lines.{clause_of, clause_count, live}
+use Rattle.hw_cert_lines.specs.Valid.{LineFits, ValidAfter, ValidFrom}
+use Rattle.hw_cert_lines.proofs.Pushed.{one_more}
+use Rattle.hw_cert_lines.proofs.Deleted.{live_in}
+use Rattle.hw_cert_lines.proofs.Priced.{AreTolls, tolls_more, no_tolls}
+use Rattle.hw_price_laws.specs.declared.tariff.Due.{Due}
+use Rattle.hw_cert_lines.specs.Tolled.{tolls_of}
+use Rattle.hw_price_laws.specs.declared.toll.Block.{Block}
+use Rattle.hw_price_laws.specs.Tolls.{BlockFits}
+use Rattle.hw_price_laws.specs.declared.toll.Toll.TheVariants as tolls
+use Rattle.hw_cert_lines.proofs.Live.{live_above}
 use Rattle.hw_cert.specs.declared.stop.FormWord.{FormWord}
 use Rattle.hw_cert.specs.declared.stop.FormWord.TheVariants.{Form, Range}
 use Rattle.hw_cert.specs.declared.version.Version.{Version}

@@ -11,7 +11,7 @@ use Rattle.hw_cert.specs.Fits.{line_read}
 use Rattle.hw_cert.specs.Certs.{Cert, BadLine, last_read, put_line, part_read, lines_read, with_version, headed, parts_read, cert_read_to}
 use Rattle.hw_cert.specs.Stream.{Position, whole, unended, long, line_passes_limit, cut_of, tail_cut, past_line, line_by, line_next, CertEnd, complete, broken, overlong, CertLines, onward, lines_from, lines_by, lines_after, cert_stream_to}
 use Rattle.hw_cert.specs.Laws.{IsLine, IsCert, StreamAgrees}
-use Rattle.hw_lines.specs.declared.line.Line.{Line}
+use Rattle.hw_cert_lines.specs.declared.line.Line.{Line}
 use Rattle.hw_cert.specs.declared.stop.FormWord.{FormWord}
 use Rattle.hw_cert.specs.declared.version.Version.{Version}
 use Rattle.hw_cert.specs.declared.version.Version.TheVariants.{One, Two, Three}

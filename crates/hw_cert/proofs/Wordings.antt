@@ -3,11 +3,11 @@ use Rattle.std.proofs.Common.{◌≡◌, ℕ, List, [], ◌∷◌, ◌++◌, map
 use Rattle.std.specs.Prelude.{codes}
 use Rattle.std.specs.List.{flat_map, join_with_byte}
 use Rattle.hw_model.specs.declared.lit.Lit.{Lit}
-use Rattle.hw_tolls.specs.declared.toll.Block.{Block}
-use Rattle.hw_lines.specs.declared.line.Line.{Line}
-use Rattle.hw_tolls.specs.declared.tariff.Due.{Due}
-use Rattle.hw_tolls.specs.declared.toll.Toll.TheVariants as tolls
-use Rattle.hw_lines.specs.declared.line.Line.TheVariants as lines
+use Rattle.hw_price_laws.specs.declared.toll.Block.{Block}
+use Rattle.hw_cert_lines.specs.declared.line.Line.{Line}
+use Rattle.hw_price_laws.specs.declared.tariff.Due.{Due}
+use Rattle.hw_price_laws.specs.declared.toll.Toll.TheVariants as tolls
+use Rattle.hw_cert_lines.specs.declared.line.Line.TheVariants as lines
 use Rattle.hw_cert.specs.Texts.{lit_text, block_text, price_text, line_text}
 use Rattle.hw_cert.specs.Worded.{spaced_number, spaced_numbers, lits_text, blocks_text, prices_text, worded}
 

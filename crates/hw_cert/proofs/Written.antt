@@ -13,9 +13,9 @@ use Rattle.hw_cert.specs.Spelled.{number_word, both_values, number_pair, lettere
 use Rattle.hw_cert.specs.Fits.{ascends, word_unless, first_fault, unless_bad, fitted, line_read}
 use Rattle.hw_cert.specs.Laws.{lit_numbers, line_numbers, wide_numbers, has_form, is_small, is_wide, IsLine}
 use Rattle.hw_cert.specs.Forms.{HasWords}
-use Rattle.hw_tolls.specs.declared.toll.Toll.TheVariants as tolls
-use Rattle.hw_lines.specs.declared.line.Line.{Line}
-use Rattle.hw_lines.specs.declared.line.Line.TheVariants as lines
+use Rattle.hw_price_laws.specs.declared.toll.Toll.TheVariants as tolls
+use Rattle.hw_cert_lines.specs.declared.line.Line.{Line}
+use Rattle.hw_cert_lines.specs.declared.line.Line.TheVariants as lines
 use Rattle.hw_cert.specs.declared.stop.FormWord.{FormWord}
 use Rattle.hw_cert.specs.declared.stop.FormWord.TheVariants.{Range}
 use Rattle.hw_cert.specs.declared.version.Version.{Version}

@@ -2,7 +2,7 @@
 use Rattle.std.specs.Prelude.{ℕ, ◌+◌, List, [], ◌∷◌, Option, Some, None, Result, Ok, Err}
 use Rattle.hw_model.specs.declared.shape.Shape.{Shape}
 use Rattle.hw_text.specs.Parts.{parts_of}
-use Rattle.hw_lines.specs.declared.line.Line.{Line}
+use Rattle.hw_cert_lines.specs.declared.line.Line.{Line}
 use Rattle.hw_cert.specs.declared.stop.FormWord.{FormWord}
 use Rattle.hw_cert.specs.declared.stop.FormWord.TheVariants.{Header, Form}
 use Rattle.hw_cert.specs.declared.version.Version.{Version}

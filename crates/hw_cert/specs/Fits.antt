@@ -6,12 +6,12 @@ use Rattle.hw_model.specs.declared.limits.TheConstants.{MOST_CARGO, MOST_HELD, M
 use Rattle.hw_model.specs.declared.lit.Lit.{Lit}
 use Rattle.hw_model.specs.declared.shape.Shape.{Shape}
 use Rattle.hw_model.specs.Lits.{BadLit, out_of_range, not_normal, first_bad}
-use Rattle.hw_tolls.specs.declared.limits.TheConstants.{MOST_PRICE, MOST_SCALE}
-use Rattle.hw_tolls.specs.declared.toll.Block.{Block}
-use Rattle.hw_lines.specs.declared.line.Line.{Line}
-use Rattle.hw_lines.specs.declared.line.Line.TheVariants as lines
-use Rattle.hw_tolls.specs.declared.tariff.Due.{Due}
-use Rattle.hw_tolls.specs.declared.toll.Toll.TheVariants as tolls
+use Rattle.hw_price_laws.specs.declared.limits.TheConstants.{MOST_PRICE, MOST_SCALE}
+use Rattle.hw_price_laws.specs.declared.toll.Block.{Block}
+use Rattle.hw_cert_lines.specs.declared.line.Line.{Line}
+use Rattle.hw_cert_lines.specs.declared.line.Line.TheVariants as lines
+use Rattle.hw_price_laws.specs.declared.tariff.Due.{Due}
+use Rattle.hw_price_laws.specs.declared.toll.Toll.TheVariants as tolls
 use Rattle.hw_cert.specs.declared.stop.FormWord.{FormWord}
 use Rattle.hw_cert.specs.declared.stop.FormWord.TheVariants.{Form, Range, Normal}
 use Rattle.hw_cert.specs.declared.version.Version.{Version}

@@ -1,7 +1,7 @@
 -- What contracts see of a log, and what taking a line does.
 use Rattle.std.specs.Borrow.{GName}
 use Rattle.std.specs.Prelude.{◌≡◌, ℕ, ◌<◌, ◌≤◌, Bool, List, [], ◌∷◌, ◌++◌, Option, Some, None, Result, Ok, Err, IfSome, IsSomeAnd, length, take}
-use Rattle.hw_lines.specs.declared.line.Line.{Line}
+use Rattle.hw_cert_lines.specs.declared.line.Line.{Line}
 use Rattle.hw_cert.specs.Texts.{line_text}
 use Rattle.hw_desk.specs.State.{FeedState, TrayState, DeskState, Rose}
 use Rattle.hw_desk.specs.declared.desk.Feed.{Feed}

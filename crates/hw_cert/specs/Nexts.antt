@@ -5,7 +5,7 @@ use Rattle.hw_desk.specs.State.{DeskState, Rose}
 use Rattle.hw_desk.specs.Calls.{Moves}
 use Rattle.hw_model.specs.Problem.{Problem, shape_of}
 use Rattle.hw_text.specs.Parts.{parts_of}
-use Rattle.hw_lines.specs.declared.line.Line.{Line}
+use Rattle.hw_cert_lines.specs.declared.line.Line.{Line}
 use Rattle.hw_cert.specs.declared.reader.Next.{Next}
 use Rattle.hw_cert.specs.declared.reader.Next.TheVariants as nexts
 use Rattle.hw_cert.specs.declared.stop.LineStop.{LineStop}
@@ -13,7 +13,7 @@ use Rattle.hw_cert.specs.declared.stop.LineStop.TheVariants as stops
 use Rattle.hw_cert.specs.Laws.{has_form}
 use Rattle.hw_cert.specs.Reader.{ReaderModel}
 use Rattle.hw_cert.specs.Stream.{NextLine, ends, comes, bad, too_long, next_of}
-use Rattle.hw_lines.specs.Valid.{LineFits}
+use Rattle.hw_cert_lines.specs.Valid.{LineFits}
 
 -- the bytes left to read of a certificate, where they are told: those of the reader and those of the desk
 abbrev pub rest_of : ReaderModel → DeskState → Option (List ℕ)

@@ -2,8 +2,8 @@
 use Rattle.std.specs.Prelude.{◌≡◌, [], ◌∷◌, Some, None, Ok, Err, codes}
 use Rattle.hw_model.specs.declared.lit.Lit.TheVariants.{AtOrAfter}
 use Rattle.hw_model.specs.declared.shape.Shape.{Shape}
-use Rattle.hw_tolls.specs.declared.toll.Toll.TheVariants as tolls
-use Rattle.hw_lines.specs.declared.line.Line.TheVariants as lines
+use Rattle.hw_price_laws.specs.declared.toll.Toll.TheVariants as tolls
+use Rattle.hw_cert_lines.specs.declared.line.Line.TheVariants as lines
 use Rattle.hw_cert.specs.declared.stop.FormWord.TheVariants.{Form, Range, Normal}
 use Rattle.hw_cert.specs.declared.version.Version.TheVariants.{Two, Three}
 use Rattle.hw_cert.specs.Spelled.{version_of_header, version_to}

@@ -5,11 +5,11 @@ use Rattle.hw_model.specs.declared.lit.Lit.TheVariants.{AtOrAfter, Before, First
 use Rattle.hw_text.specs.Numbers.{number_up_to}
 use Rattle.hw_text.specs.Parts.{parts_of, words_of}
 use Rattle.hw_flat.specs.TextForms.{put_first}
-use Rattle.hw_tolls.specs.declared.toll.Block.{Block}
-use Rattle.hw_lines.specs.declared.line.Line.{Line}
-use Rattle.hw_lines.specs.declared.line.Line.TheVariants as lines
-use Rattle.hw_tolls.specs.declared.tariff.Due.{Due}
-use Rattle.hw_tolls.specs.declared.toll.Toll.TheVariants as tolls
+use Rattle.hw_price_laws.specs.declared.toll.Block.{Block}
+use Rattle.hw_cert_lines.specs.declared.line.Line.{Line}
+use Rattle.hw_cert_lines.specs.declared.line.Line.TheVariants as lines
+use Rattle.hw_price_laws.specs.declared.tariff.Due.{Due}
+use Rattle.hw_price_laws.specs.declared.toll.Toll.TheVariants as tolls
 use Rattle.hw_cert.specs.declared.version.Version.{Version}
 use Rattle.hw_cert.specs.declared.version.Version.TheVariants.{One, Two, Three}
 

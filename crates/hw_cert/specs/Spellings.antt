@@ -2,10 +2,10 @@
 use Rattle.std.specs.Prelude.{ℕ, List, Option, option_map, Vec}
 use Rattle.std.specs.declared.alloc.Global.{Global}
 use Rattle.hw_model.specs.declared.lit.Lit.{Lit}
-use Rattle.hw_tolls.specs.declared.toll.Block.{Block}
-use Rattle.hw_lines.specs.declared.line.Line.{Line}
-use Rattle.hw_lines.specs.declared.line.Line.TheVariants as lines
-use Rattle.hw_tolls.specs.declared.tariff.Due.{Due}
+use Rattle.hw_price_laws.specs.declared.toll.Block.{Block}
+use Rattle.hw_cert_lines.specs.declared.line.Line.{Line}
+use Rattle.hw_cert_lines.specs.declared.line.Line.TheVariants as lines
+use Rattle.hw_price_laws.specs.declared.tariff.Due.{Due}
 use Rattle.hw_cert.specs.declared.spelling.Spelling.{Spelling}
 use Rattle.hw_cert.specs.declared.spelling.Spelling.TheVariants as spellings
 use Rattle.hw_cert.specs.declared.spelling.FoundLits.{FoundLits}

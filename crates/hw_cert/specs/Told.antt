@@ -5,9 +5,9 @@ use Rattle.hw_text.specs.Parts.{parts_of, lacks}
 use Rattle.hw_desk.specs.State.{DeskState, Rose}
 use Rattle.hw_desk.specs.Calls.{Sends}
 use Rattle.hw_desk.specs.declared.desk.Tray.TheVariants.{Proof}
-use Rattle.hw_lines.specs.declared.line.Line.{Line}
-use Rattle.hw_tolls.specs.declared.toll.Toll.TheVariants.{Narrows}
-use Rattle.hw_lines.specs.declared.line.Line.TheVariants.{Table, Delete, Toll}
+use Rattle.hw_cert_lines.specs.declared.line.Line.{Line}
+use Rattle.hw_price_laws.specs.declared.toll.Toll.TheVariants.{Narrows}
+use Rattle.hw_cert_lines.specs.declared.line.Line.TheVariants.{Table, Delete, Toll}
 use Rattle.hw_cert.specs.declared.version.Version.{Version}
 use Rattle.hw_cert.specs.declared.version.Version.TheVariants.{Two, Three}
 use Rattle.hw_cert.specs.Texts.{certificate_header, cert_text}

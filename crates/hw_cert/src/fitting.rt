@@ -11,11 +11,11 @@ ghost use Rattle.hw_cert.specs.Spellings.{spelling_view};
 use crate::spelling::{Spelling, spelling_of};
 use crate::stop::FormWord;
 use crate::version::Version;
+use hw_cert_lines::{Hints, Line};
 use hw_flat::Timetable;
-use hw_lines::{Hints, Line};
 use hw_lits::{Clause, ClauseFault};
 use hw_model::{Lit, MOST_CARGO, MOST_HELD, MOST_SHIPS, MOST_TUGS, NoMemory, Shape};
-use hw_tolls::{Block, Blocks, Due, Dues, MOST_PRICE, MOST_SCALE, Tariff, Toll, Weights};
+use hw_price_laws::{Block, Blocks, Due, Dues, MOST_PRICE, MOST_SCALE, Tariff, Toll, Weights};
 use std::alloc::{AllocError, Global};
 
 /// Why a line can't be read.

@@ -19,8 +19,8 @@ mod version;
 mod words;
 
 pub use fitting::{are_cheap, tolls_ascend};
-pub use hw_lines::{CheckWord, Hints, Line, Refusal, Verdict};
-pub use hw_tolls::{Block, Blocks, Due, Dues, Tariff, Toll, Weights};
+pub use hw_cert_lines::{CheckWord, Hints, Line, Refusal, Verdict};
+pub use hw_price_laws::{Block, Blocks, Due, Dues, Tariff, Toll, Weights};
 pub use laws::{
     cert_spelled, each_text_told, form_spelled, header_spelled, line_spelled, overlong_passes,
     plain_forms, plain_read, read_forms, stream_reads, stream_steps, text_rows, text_told,

@@ -4,7 +4,7 @@ ghost use Rattle.std.specs.Prelude.{◌≡◌};
 ghost use Rattle.hw_cert.specs.declared.log.LogStop.TheVariants.{NoMemory};
 ghost use Rattle.hw_cert.specs.Logs.{LogAnchor, LogModel, IsWhole, TakesLine};
 
-use hw_lines::Line;
+use hw_cert_lines::Line;
 use std::alloc::AllocFailed;
 
 /// Why a log did not take a line.

@@ -3,7 +3,7 @@
 ghost use Rattle.std.specs.Prelude.{◌≡◌, []};
 
 use crate::{Log, LogStop};
-use hw_lines::Line;
+use hw_cert_lines::Line;
 use std::alloc::Global;
 use std::marker::Model;
 
@@ -16,7 +16,7 @@ pub struct MemoryLog {
 
 impl Model for MemoryLog {
     ghost use Rattle.std.specs.Prelude.{List};
-    ghost use Rattle.hw_lines.specs.declared.line.Line.{Line as LineOf};
+    ghost use Rattle.hw_cert_lines.specs.declared.line.Line.{Line as LineOf};
 
     ghost Value = { List LineOf };
 

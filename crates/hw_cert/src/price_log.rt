@@ -11,8 +11,8 @@ use crate::sending::{send_header_of, send_line};
 use crate::tray_log::HeaderFailed;
 use crate::version::Version;
 use crate::{Log, LogStop};
+use hw_cert_lines::Line;
 use hw_desk::{Desk, Tray};
-use hw_lines::Line;
 
 /// A log whose text goes to the proof of a borrowed desk as a certificate with tolls, `cert 3`. It takes
 /// no memory.

@@ -8,10 +8,10 @@ ghost use Rattle.hw_cert.specs.Texts.{lit_text, block_text, price_text, line_tex
 ghost use Rattle.hw_cert.specs.Worded.{spaced_number, spaced_numbers, lits_text, blocks_text, prices_text, worded};
 ghost use Rattle.hw_cert.specs.Laws.{is_small, is_wide, lit_numbers, block_numbers, line_numbers, wide_numbers};
 
+use hw_cert_lines::{Hints, Line};
 use hw_desk::Writer;
-use hw_lines::{Hints, Line};
 use hw_lits::{Clause, Lit};
-use hw_tolls::{Block, Due, Tariff, Toll};
+use hw_price_laws::{Block, Due, Tariff, Toll};
 
 /// Puts a number after a space.
 #[tactic(auto, using(hw_desk::proofs::Written::puts_on))]

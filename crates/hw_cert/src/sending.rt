@@ -13,8 +13,8 @@ ghost use Rattle.hw_cert.specs.Told.{header_line_of, is_told_under, log_under};
 
 use crate::putting::put_line;
 use crate::version::Version;
+use hw_cert_lines::Line;
 use hw_desk::{Desk, DeskFailed, Tray, TrayWriter, Writer, write_all};
-use hw_lines::Line;
 
 /// Puts lines, each with its end.
 #[tactic(auto, using(hw_desk::proofs::Written::puts_on))]

@@ -9,8 +9,8 @@ use crate::version::Version;
 use crate::words::{is_header_word, keywords};
 use hw_lexicon::each_word;
 use hw_model::Lit;
+use hw_price_laws::{Block, Due};
 use hw_text::{Words, is_text, read_number};
-use hw_tolls::{Block, Due};
 use std::alloc::{AllocError, Global};
 
 /// The numbers and literals of a line that has its form. They may not fit the problem.

@@ -6,8 +6,8 @@ ghost use Rattle.hw_cert.specs.Spellings.{blocks_view, prices_view, spelling_vie
 
 use crate::spelling::{Spelling, number_of, numbers_of, only_lits_of};
 use crate::version::Version;
+use hw_price_laws::{Block, Due};
 use hw_text::{Words, read_number};
-use hw_tolls::{Block, Due};
 use std::alloc::{AllocError, Global};
 
 /// A price or a bound.

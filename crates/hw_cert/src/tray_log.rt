@@ -10,8 +10,8 @@ ghost use Rattle.hw_cert.specs.Told.{FailsHeader, header_line, is_told, tray_anc
 use crate::sending::{send_header_of, send_line};
 use crate::version::Version;
 use crate::{Log, LogStop};
+use hw_cert_lines::Line;
 use hw_desk::{Desk, DeskFailed, Tray};
-use hw_lines::Line;
 
 /// A log whose text goes to the proof of a borrowed desk. It takes no memory.
 ///

@@ -1,10 +1,10 @@
 -- The grid over the plot: marks on its axis, and lines down the picture.
 use Rattle.std.specs.Prelude.{ℕ, ◌+◌, ◌*◌, ◌/◌, ◌%◌, zero, suc, Bool, ◌&&◌, nat_eq, nat_lt, nat_le, if◌then◌else◌, List, [], ◌∷◌, ◌++◌, codes, decimal, find, unwrap_or}
 use Rattle.std.specs.Int.{div_ceil}
-use Rattle.hw_svg.specs.Joined.{joined}
-use Rattle.hw_svg.specs.Lettering.{line}
-use Rattle.hw_svg.specs.Numbers.{clock}
-use Rattle.hw_svg.specs.Shapes.{shape}
+use Rattle.hw_chart_svg.specs.Joined.{joined}
+use Rattle.hw_chart_svg.specs.Lettering.{line}
+use Rattle.hw_chart_svg.specs.Numbers.{clock}
+use Rattle.hw_chart_svg.specs.Shapes.{shape}
 use Rattle.hw_chart.specs.declared.grid.TheConstants.{MINUTES, SLOTS}
 use Rattle.hw_chart.specs.declared.grid.Axis.{Axis}
 use Rattle.hw_chart.specs.declared.grid.Scale.{Scale}

@@ -1,9 +1,9 @@
 -- The head of a picture: its title and ground.
 use Rattle.std.specs.Prelude.{ℕ, List, [], ◌∷◌, codes}
-use Rattle.hw_svg.specs.Joined.{joined}
-use Rattle.hw_svg.specs.Lettering.{line}
-use Rattle.hw_svg.specs.Shapes.{block}
-use Rattle.hw_svg.specs.Sheets.{picture_begin}
+use Rattle.hw_chart_svg.specs.Joined.{joined}
+use Rattle.hw_chart_svg.specs.Lettering.{line}
+use Rattle.hw_chart_svg.specs.Shapes.{block}
+use Rattle.hw_chart_svg.specs.Sheets.{picture_begin}
 use Rattle.hw_chart.specs.declared.style.TheConstants.{STYLE}
 use Rattle.hw_chart.specs.declared.outcome.CargoUnit.{CargoUnit}
 use Rattle.hw_chart.specs.declared.outcome.Outcome.{Outcome}

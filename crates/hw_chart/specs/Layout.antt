@@ -1,9 +1,9 @@
 -- Where things stand on a picture.
 use Rattle.std.specs.Prelude.{ℕ, ◌+◌, ◌-◌, ◌*◌, ◌/◌, ◌%◌, Bool, ◌&&◌, ◌||◌, nat_eq, nat_lt, if◌then◌else◌, List, [], ◌∷◌, codes, decimal, count_by, slice_index}
 use Rattle.std.specs.List.{enumerate_from}
-use Rattle.hw_svg.specs.Joined.{joined}
-use Rattle.hw_svg.specs.Shapes.{block, shape}
-use Rattle.hw_svg.specs.declared.sheet.Window.{Window}
+use Rattle.hw_chart_svg.specs.Joined.{joined}
+use Rattle.hw_chart_svg.specs.Shapes.{block, shape}
+use Rattle.hw_chart_svg.specs.declared.sheet.Window.{Window}
 
 -- a window over the slots that a picture shows, `tall` units of its own down
 abbrev pub plot : ℕ → ℕ → ℕ → ℕ → Window

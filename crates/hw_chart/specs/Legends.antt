@@ -1,9 +1,9 @@
 -- The legend of a picture: it names the marks that stand there.
 use Rattle.std.specs.Prelude.{◌≤◌, ℕ, ◌+◌, Bool, nat_lt, if◌then◌else◌, List, [], ◌∷◌, ◌++◌, codes, length}
-use Rattle.hw_svg.specs.Lettering.{line}
-use Rattle.hw_svg.specs.Shapes.{block}
-use Rattle.hw_svg.specs.Sheets.{window}
-use Rattle.hw_svg.specs.Widths.{small_width}
+use Rattle.hw_chart_svg.specs.Lettering.{line}
+use Rattle.hw_chart_svg.specs.Shapes.{block}
+use Rattle.hw_chart_svg.specs.Sheets.{window}
+use Rattle.hw_chart_svg.specs.Widths.{small_width}
 use Rattle.hw_chart.specs.declared.legend.Entry.{Entry}
 use Rattle.hw_chart.specs.declared.legend.LegendPlace.{LegendPlace}
 use Rattle.hw_chart.specs.declared.legend.Sample.{Sample}

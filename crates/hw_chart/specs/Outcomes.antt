@@ -1,10 +1,10 @@
 -- What a certificate shows, as the title, the meaning and the badge of a picture.
 use Rattle.std.specs.Prelude.{ℕ, List, [], ◌∷◌, ◌++◌, Option, Some, None, codes, decimal}
-use Rattle.hw_lines.specs.declared.check.Verdict.{Verdict}
-use Rattle.hw_lines.specs.declared.check.Verdict.TheVariants.{Optimal, Infeasible, Unfinished}
-use Rattle.hw_svg.specs.Joined.{joined}
-use Rattle.hw_svg.specs.Numbers.{tonnes_label}
-use Rattle.hw_svg.specs.Shapes.{shape}
+use Rattle.hw_cert_lines.specs.declared.check.Verdict.{Verdict}
+use Rattle.hw_cert_lines.specs.declared.check.Verdict.TheVariants.{Optimal, Infeasible, Unfinished}
+use Rattle.hw_chart_svg.specs.Joined.{joined}
+use Rattle.hw_chart_svg.specs.Numbers.{tonnes_label}
+use Rattle.hw_chart_svg.specs.Shapes.{shape}
 use Rattle.hw_chart.specs.declared.outcome.CargoUnit.{CargoUnit}
 use Rattle.hw_chart.specs.declared.outcome.CargoUnit.TheVariants.{Tonnes, Plain}
 use Rattle.hw_chart.specs.declared.outcome.Outcome.{Outcome}

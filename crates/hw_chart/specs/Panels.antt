@@ -1,10 +1,10 @@
 -- Panels of tugs against a fleet.
 use Rattle.std.specs.Prelude.{ℕ, ◌+◌, ◌-◌, max, List, [], ◌∷◌, ◌++◌, codes, decimal}
-use Rattle.hw_svg.specs.Figures.{steps}
-use Rattle.hw_svg.specs.Joined.{joined}
-use Rattle.hw_svg.specs.Lettering.{line}
-use Rattle.hw_svg.specs.Shapes.{block}
-use Rattle.hw_svg.specs.Sheets.{svg_end, window_begin}
+use Rattle.hw_chart_svg.specs.Figures.{steps}
+use Rattle.hw_chart_svg.specs.Joined.{joined}
+use Rattle.hw_chart_svg.specs.Lettering.{line}
+use Rattle.hw_chart_svg.specs.Shapes.{block}
+use Rattle.hw_chart_svg.specs.Sheets.{svg_end, window_begin}
 use Rattle.hw_chart.specs.declared.panel.Panel.{Panel}
 use Rattle.hw_chart.specs.Figures.{full_level, greatest_level}
 use Rattle.hw_chart.specs.Layout.{plot}

@@ -1,9 +1,9 @@
 -- Parts of the row of a ship.
 use Rattle.std.specs.Prelude.{ℕ, ◌+◌, ◌-◌, List, ◌++◌, codes}
-use Rattle.hw_svg.specs.Figures.{steps}
-use Rattle.hw_svg.specs.Lettering.{line}
-use Rattle.hw_svg.specs.Shapes.{block}
-use Rattle.hw_svg.specs.Sheets.{window, window_begin}
+use Rattle.hw_chart_svg.specs.Figures.{steps}
+use Rattle.hw_chart_svg.specs.Lettering.{line}
+use Rattle.hw_chart_svg.specs.Shapes.{block}
+use Rattle.hw_chart_svg.specs.Sheets.{window, window_begin}
 use Rattle.hw_chart.specs.declared.row.Sailings.{Sailings}
 use Rattle.hw_chart.specs.Layout.{plot}
 

@@ -4,12 +4,12 @@ ghost use Rattle.std.specs.Prelude.{◌≡◌, ◌^◌, ◌<◌, IsTrue, nat_lt}
 ghost use Rattle.std.specs.Int.{div_ceil};
 ghost use Rattle.std.specs.List.{list_all};
 ghost use Rattle.hw_desk.specs.Writers.{Puts};
-ghost use Rattle.hw_svg.specs.Pieces.{picture_pieces_text};
+ghost use Rattle.hw_chart_svg.specs.Pieces.{picture_pieces_text};
 ghost use Rattle.hw_chart.specs.Grids.{axis_of, caption_text, grid, line_path, line_paths, mark, axis_mark_class, mark_text, marks, span_end, step_among, step_of, total_of};
 
 use crate::layout::place;
+use hw_chart_svg::{Piece, put_line, put_pieces, put_shape, put_shape_begin};
 use hw_desk::Writer;
-use hw_svg::{Piece, put_line, put_pieces, put_shape, put_shape_begin};
 
 /// What the axis counts: minutes, this many to a slot, or slots.
 #[derive(Clone, Copy)]

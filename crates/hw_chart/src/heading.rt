@@ -1,13 +1,13 @@
 //! The head of a picture.
 
 ghost use Rattle.hw_desk.specs.Writers.{Puts};
-ghost use Rattle.hw_svg.specs.Pieces.{picture_pieces_text};
+ghost use Rattle.hw_chart_svg.specs.Pieces.{picture_pieces_text};
 ghost use Rattle.hw_chart.specs.Headings.{ground, heading};
 
 use crate::outcome::{CargoUnit, Outcome, meaning, put_badge, title};
 use crate::style::put_style;
+use hw_chart_svg::{Area, Piece, put_block, put_line, put_picture_begin};
 use hw_desk::Writer;
-use hw_svg::{Area, Piece, put_block, put_line, put_picture_begin};
 
 /// Puts the ground of a picture of this height.
 pub fn put_ground<W: Writer>(out: &mut W, height: u64)

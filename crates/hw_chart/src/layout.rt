@@ -4,9 +4,9 @@ ghost use Rattle.std.specs.Prelude.{◌≡◌, ◌^◌, ◌<◌, length};
 ghost use Rattle.hw_desk.specs.Writers.{Puts};
 ghost use Rattle.hw_chart.specs.Layout.{pin, plot_place, plot, rank_of, stripe};
 
+use hw_chart_svg::{Area, Piece, Window, put_block, put_shape};
 use hw_desk::Writer;
 use hw_model::{ShipId, Slot};
-use hw_svg::{Area, Piece, Window, put_block, put_shape};
 
 /// A window over the slots that a picture shows, `tall` units of its own down.
 pub fn plot(y: u64, height: u64, span: u32, tall: u64) -> Window

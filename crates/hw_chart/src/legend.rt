@@ -4,10 +4,10 @@ ghost use Rattle.std.specs.Prelude.{◌≡◌, ◌≤◌, ◌+◌, ◌*◌, All,
 ghost use Rattle.hw_desk.specs.Writers.{Puts};
 ghost use Rattle.hw_chart.specs.Legends.{HasShortWords, entry_parts, place_of_entry, entry_text, entry_where, entry_width, legend_begin as first_place, legend_from, legend_parts, next_place as place_of_next, place_beside, sample_text};
 
-use hw_desk::Writer;
-use hw_svg::{
+use hw_chart_svg::{
     Area, Piece, Window, put_block, put_line, put_svg_end, put_window_begin, small_width,
 };
+use hw_desk::Writer;
 
 /// What stands before the words of an entry: a patch of the mark's colour, a patch of three stripes, or a sign in the type of
 /// a figure.

@@ -3,7 +3,7 @@
 ghost use Rattle.std.specs.Prelude.{◌≡◌, ◌-◌, ◌≤◌};
 ghost use Rattle.hw_chart.specs.Figures.{full_level, greatest_level, is_reached, is_top_touched};
 
-use hw_svg::Levels;
+use hw_chart_svg::Levels;
 
 /// What a window shows that hangs from its top: in each slot how far an amount stays below the window's height.
 #[derive(Drop)]

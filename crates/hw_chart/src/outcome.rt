@@ -2,13 +2,13 @@
 
 ghost use Rattle.std.specs.Prelude.{◌≡◌, ◌∷◌};
 ghost use Rattle.hw_desk.specs.Writers.{Puts};
-ghost use Rattle.hw_svg.specs.Joined.{joined};
-ghost use Rattle.hw_svg.specs.Pieces.{picture_piece_text, picture_pieces_text};
+ghost use Rattle.hw_chart_svg.specs.Joined.{joined};
+ghost use Rattle.hw_chart_svg.specs.Pieces.{picture_piece_text, picture_pieces_text};
 ghost use Rattle.hw_chart.specs.Outcomes.{amount_parts, badge, cargo_in_unit, disc_class, meaning_text, most_parts, sign_path, title_text, unit_text};
 
+use hw_cert_lines::Verdict;
+use hw_chart_svg::{Piece, put_shape};
 use hw_desk::Writer;
-use hw_lines::Verdict;
-use hw_svg::{Piece, put_shape};
 
 /// How cargo is written: tenths of a tonne as tonnes, or as they are.
 #[derive(Clone, Copy)]

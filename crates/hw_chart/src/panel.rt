@@ -7,10 +7,10 @@ ghost use Rattle.hw_chart.specs.Panels.{fleet_label, panel_ground, panel_tall, p
 
 use crate::layout::plot;
 use crate::levels::{Full, Rising, greatest};
-use hw_desk::Writer;
-use hw_svg::{
+use hw_chart_svg::{
     Area, Levels, Piece, Window, put_block, put_line, put_steps, put_svg_end, put_window_begin,
 };
+use hw_desk::Writer;
 
 /// A panel of tugs: where it stands, how many tugs there are, in how many slots they are counted, and how many the
 /// picture shows.

@@ -5,8 +5,10 @@ ghost use Rattle.hw_desk.specs.Writers.{Puts};
 ghost use Rattle.hw_chart.specs.Rows.{bar, bars_begin, moves_window, no_slot, sailing_mark, sailing_steps, sailings_begin, stays_label};
 
 use crate::layout::plot;
+use hw_chart_svg::{
+    Area, Levels, Piece, put_block, put_line, put_steps, put_svg_end, put_window_begin,
+};
 use hw_desk::Writer;
-use hw_svg::{Area, Levels, Piece, put_block, put_line, put_steps, put_svg_end, put_window_begin};
 
 /// The window of a ship's sailings: where its row stands, how many slots the picture shows, how tall the window is in
 /// units of its own, and the slots from the first to before the end in which the ship might sail.

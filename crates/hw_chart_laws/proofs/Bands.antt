@@ -2,10 +2,10 @@
 use Rattle.std.proofs.Common.{◌≡◌, ◌≢◌, ◌⊎◌, ◌<◌, ◌≤◌, ◌+◌, ◌*◌, ℕ, Option, Some, None, List, length, refl, ap, arith, inl, inr}
 use Rattle.std.proofs.lemmas.Bool.{cases_lt}
 use Rattle.hw_model.specs.Problem.{Problem}
-use Rattle.hw_flat_chart.specs.Pictures.{flat_picture_bottom}
-use Rattle.hw_port_chart.specs.Charts.{ChartParts}
-use Rattle.hw_port_chart.specs.Heads.{places}
-use Rattle.hw_port_chart.specs.Rows.{rank_in}
+use Rattle.hw_chart_flat.specs.Pictures.{flat_picture_bottom}
+use Rattle.hw_chart_port.specs.Charts.{ChartParts}
+use Rattle.hw_chart_port.specs.Heads.{places}
+use Rattle.hw_chart_port.specs.Rows.{rank_in}
 use Rattle.hw_chart_laws.specs.Bands.{FlatPartsLieApart, IsFlatPart, IsPortPart, LieApart, Part, PortPartsLieApart, flat_band, lane, panel, port_band, row, ship_y, tide}
 use Rattle.hw_chart_laws.proofs.Ranks.{HasSlots, rank_below, ranks_differ}
 

@@ -6,10 +6,10 @@ use Rattle.std.proofs.lemmas.Int.{ints}
 use Rattle.hw_port.specs.Kept.{PortKept}
 use Rattle.hw_port.specs.Parts.{ShipParts}
 use Rattle.hw_port_laws.proofs.Ships.{ship_kept}
-use Rattle.hw_port_rules.specs.Drafts.{carried, loaded, sailing, usable_draft, value}
-use Rattle.hw_port_chart.proofs.Bounds.{sails_between}
-use Rattle.hw_port_chart.specs.Charts.{ChartParts, full_of}
-use Rattle.hw_port_chart.specs.Drafts.{full_draft_level, short_level}
+use Rattle.hw_port_model.specs.Drafts.{carried, loaded, sailing, usable_draft, value}
+use Rattle.hw_chart_port.proofs.Bounds.{sails_between}
+use Rattle.hw_chart_port.specs.Charts.{ChartParts, full_of}
+use Rattle.hw_chart_port.specs.Drafts.{full_draft_level, short_level}
 use Rattle.hw_chart_laws.specs.Laws.{bar_level, foot_of, level_of_full_draft}
 
 pub short_less : (light full d : ℤ) → light ≤ℤ d → d ≤ℤ full → unsigned_abs (full -ℤ d) ≤ unsigned_abs (full -ℤ light)

@@ -3,16 +3,16 @@ use Rattle.std.proofs.Common.{◌≡◌, ◌++◌, ◌&&◌, ℕ, Bool, true, fa
 use Rattle.std.specs.List.{list_all}
 use Rattle.std.proofs.lemmas.Bool.{and_parts, and_from, cond_both}
 use Rattle.hw_lemmas.proofs.Truths.{was_not}
-use Rattle.hw_svg.specs.Lettering.{line, name_line, shortened_line, text_begin}
-use Rattle.hw_svg.specs.Marks.{is_word}
-use Rattle.hw_svg.specs.Names.{escaped}
-use Rattle.hw_svg.specs.Shapes.{shape, shape_begin, titled}
-use Rattle.hw_svg.specs.Shortened.{shortened}
-use Rattle.hw_svg.specs.Sheets.{group_end, svg_end, window_begin}
-use Rattle.hw_svg.specs.Widths.{width_of}
-use Rattle.hw_svg.specs.declared.area.Area.{Area}
-use Rattle.hw_svg.specs.declared.sheet.Window.{Window}
-use Rattle.hw_svg.proofs.Words.{name_is_word}
+use Rattle.hw_chart_svg.specs.Lettering.{line, name_line, shortened_line, text_begin}
+use Rattle.hw_chart_svg.specs.Marks.{is_word}
+use Rattle.hw_chart_svg.specs.Names.{escaped}
+use Rattle.hw_chart_svg.specs.Shapes.{shape, shape_begin, titled}
+use Rattle.hw_chart_svg.specs.Shortened.{shortened}
+use Rattle.hw_chart_svg.specs.Sheets.{group_end, svg_end, window_begin}
+use Rattle.hw_chart_svg.specs.Widths.{width_of}
+use Rattle.hw_chart_svg.specs.declared.area.Area.{Area}
+use Rattle.hw_chart_svg.specs.declared.sheet.Window.{Window}
+use Rattle.hw_chart_svg.proofs.Words.{name_is_word}
 use Rattle.hw_chart.specs.Hatches.{hatch}
 use Rattle.hw_chart_laws.specs.Trees.{is_plain_byte}
 use Rattle.hw_chart_laws.proofs.Plain.{Plain, area, number}

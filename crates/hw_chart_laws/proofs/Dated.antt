@@ -1,12 +1,12 @@
 -- The grid of a port's picture, with dates or without, made of what a picture is written with.
 use Rattle.std.proofs.Common.{◌+◌, ℕ, zero, suc, Option, Some, None, List, codes, refl}
-use Rattle.hw_dates.specs.declared.moment.Moment.{Moment}
-use Rattle.hw_port_rules.specs.Numbers.{whole}
-use Rattle.hw_calendar.specs.Calendars.{day_begins, dated_axis, dated_grid, dated_lines, dated_marks, moment_class, moment_mark, moment_words}
+use Rattle.hw_port_dates.specs.declared.moment.Moment.{Moment}
+use Rattle.hw_port_model.specs.Numbers.{whole}
+use Rattle.hw_chart_calendar.specs.Calendars.{day_begins, dated_axis, dated_grid, dated_lines, dated_marks, moment_class, moment_mark, moment_words}
 use Rattle.hw_chart.specs.declared.grid.Axis.{Axis}
 use Rattle.hw_chart.specs.declared.grid.Scale.TheVariants.{Minutes}
-use Rattle.hw_port_chart.specs.Charts.{ChartParts}
-use Rattle.hw_port_chart.specs.Pictures.{bottom, times_from}
+use Rattle.hw_chart_port.specs.Charts.{ChartParts}
+use Rattle.hw_chart_port.specs.Pictures.{bottom, times_from}
 use Rattle.hw_chart_laws.proofs.Plain.{Plain, both, letters, number, nothing}
 use Rattle.hw_chart_laws.proofs.Shared.{either as either_plain, of_grid, says, three}
 use Rattle.hw_chart_laws.proofs.Spelled.{Spelled, also, either, fixed, name, nothing as no_words, of_clock, of_number}

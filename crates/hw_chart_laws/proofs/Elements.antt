@@ -3,17 +3,17 @@ use Rattle.std.proofs.Common.{◌≡◌, ◌++◌, ◌∙◌, ℕ, Bool, true, f
 use Rattle.std.proofs.lemmas.Grind.{common_steps}
 use Rattle.std.specs.List.{list_all}
 use Rattle.std.proofs.lemmas.Bool.{and_from}
-use Rattle.hw_svg.specs.Lettering.{line, name_line, text_begin}
-use Rattle.hw_svg.specs.Names.{byte_text, escaped}
-use Rattle.hw_svg.specs.Shapes.{area_path, shape, shape_begin, titled}
-use Rattle.hw_svg.specs.Shortened.{shortened}
-use Rattle.hw_svg.specs.Sheets.{group_end, item_begin, list_begin, svg_end, title_end, window_begin}
-use Rattle.hw_svg.specs.Trees.{Attribute, Node, Nodes, words, element, no_more, node, nodes_text}
-use Rattle.hw_svg.specs.WellFormed.{attribute, on_a_line, name_nodes, shape_node, place_attributes, title_node, window_attributes}
-use Rattle.hw_svg.specs.Widths.{width_of}
-use Rattle.hw_svg.specs.declared.area.Area.{Area}
-use Rattle.hw_svg.specs.declared.sheet.Window.{Window}
-use Rattle.hw_svg.proofs.Nested.{name_nested, titled_nested}
+use Rattle.hw_chart_svg.specs.Lettering.{line, name_line, text_begin}
+use Rattle.hw_chart_svg.specs.Names.{byte_text, escaped}
+use Rattle.hw_chart_svg.specs.Shapes.{area_path, shape, shape_begin, titled}
+use Rattle.hw_chart_svg.specs.Shortened.{shortened}
+use Rattle.hw_chart_svg.specs.Sheets.{group_end, item_begin, list_begin, svg_end, title_end, window_begin}
+use Rattle.hw_chart_svg.specs.Trees.{Attribute, Node, Nodes, words, element, no_more, node, nodes_text}
+use Rattle.hw_chart_svg.specs.WellFormed.{attribute, on_a_line, name_nodes, shape_node, place_attributes, title_node, window_attributes}
+use Rattle.hw_chart_svg.specs.Widths.{width_of}
+use Rattle.hw_chart_svg.specs.declared.area.Area.{Area}
+use Rattle.hw_chart_svg.specs.declared.sheet.Window.{Window}
+use Rattle.hw_chart_svg.proofs.Nested.{name_nested, titled_nested}
 use Rattle.hw_chart.specs.Hatches.{hatch}
 use Rattle.hw_chart_laws.specs.Trees.{are_attributes, are_trees, is_attribute, is_element_name, is_other, is_tree}
 use Rattle.hw_chart_laws.proofs.Plain.{Plain, area, both, letters, number}

@@ -9,9 +9,9 @@ use Rattle.hw_model.specs.Limits.{IsFlat}
 use Rattle.hw_model.specs.Problem.{IsTimetable, Problem, horizon, value_at}
 use Rattle.hw_port_laws.proofs.Eachs.{each_at, each_of_all}
 use Rattle.hw_chart.specs.Figures.{greatest_level}
-use Rattle.hw_flat_chart.specs.declared.row.Row.{Row}
-use Rattle.hw_flat_chart.specs.Rows.{row_top}
-use Rattle.hw_flat_chart.specs.Values.{cargo_in_slot, most_carried, most_level, tall_of, unit_of, value_level}
+use Rattle.hw_chart_flat.specs.declared.row.Row.{Row}
+use Rattle.hw_chart_flat.specs.Rows.{row_top}
+use Rattle.hw_chart_flat.specs.Values.{cargo_in_slot, most_carried, most_level, tall_of, unit_of, value_level}
 use Rattle.hw_chart_laws.specs.Alike.{CarryAlike, SameClass, flat_row}
 use Rattle.hw_chart_laws.proofs.Bars.{full_where}
 use Rattle.hw_chart_laws.proofs.FlatRowParts.{ground_area, levels, most_line, most_text, shared, stripe_on, tall_in, title_in, tops, written}

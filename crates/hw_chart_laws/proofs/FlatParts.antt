@@ -5,21 +5,21 @@ use Rattle.hw_model.specs.declared.rule.Rule.{Rule}
 use Rattle.hw_model.specs.declared.rule.Rule.TheVariants.{Pair, After, Tugs}
 use Rattle.hw_model.specs.Problem.{Problem, horizon, value_at}
 use Rattle.hw_model.specs.Rules.{busy}
-use Rattle.hw_svg.specs.Sheets.{group_end}
+use Rattle.hw_chart_svg.specs.Sheets.{group_end}
 use Rattle.hw_chart.specs.declared.course.Course.{Course}
 use Rattle.hw_chart.specs.declared.course.Course.TheVariants.{Unplanned, Stays, Sails}
 use Rattle.hw_chart.specs.Layout.{plot, stripe}
 use Rattle.hw_chart.specs.Legends.{legend_begin}
 use Rattle.hw_chart.specs.Rows.{moves_window}
-use Rattle.hw_flat_chart.specs.declared.row.Row.{Row}
-use Rattle.hw_flat_chart.specs.Fleets.{fleets, jobs_of_rule}
-use Rattle.hw_flat_chart.specs.declared.marks.FlatMark.{FlatMark}
-use Rattle.hw_flat_chart.specs.declared.marks.FlatMark.TheVariants as marks
-use Rattle.hw_flat_chart.specs.Legends.{all_flat_marks, flat_entries, flat_entry, flat_legend}
-use Rattle.hw_flat_chart.specs.Moves.{flat_open_level}
-use Rattle.hw_flat_chart.specs.Pictures.{flat_columns, flat_panel_of, planned_panels, flat_picture_sizes, unplanned_panels}
-use Rattle.hw_flat_chart.specs.Rows.{flat_bars, course_parts, course_text, flat_figures, fleet_bars, job_bars, nowhere_text, flat_row_label, row_top, value_mark, value_window, values_text, wait_bar, flat_wait_bars}
-use Rattle.hw_flat_chart.specs.Values.{cargo_in_slot, most_carried, most_level, sails_nowhere, tall_of, value_level}
+use Rattle.hw_chart_flat.specs.declared.row.Row.{Row}
+use Rattle.hw_chart_flat.specs.Fleets.{fleets, jobs_of_rule}
+use Rattle.hw_chart_flat.specs.declared.marks.FlatMark.{FlatMark}
+use Rattle.hw_chart_flat.specs.declared.marks.FlatMark.TheVariants as marks
+use Rattle.hw_chart_flat.specs.Legends.{all_flat_marks, flat_entries, flat_entry, flat_legend}
+use Rattle.hw_chart_flat.specs.Moves.{flat_open_level}
+use Rattle.hw_chart_flat.specs.Pictures.{flat_columns, flat_panel_of, planned_panels, flat_picture_sizes, unplanned_panels}
+use Rattle.hw_chart_flat.specs.Rows.{flat_bars, course_parts, course_text, flat_figures, fleet_bars, job_bars, nowhere_text, flat_row_label, row_top, value_mark, value_window, values_text, wait_bar, flat_wait_bars}
+use Rattle.hw_chart_flat.specs.Values.{cargo_in_slot, most_carried, most_level, sails_nowhere, tall_of, value_level}
 use Rattle.hw_chart_laws.proofs.Legends.{AreSound, IsSound, of_legend_from}
 use Rattle.hw_chart_laws.proofs.Plain.{letters}
 use Rattle.hw_chart_laws.proofs.Spelled.{Spelled, also, fixed, of_number, nothing}

@@ -4,7 +4,7 @@ use Rattle.std.proofs.lemmas.Bool.{cases_eq, cases_lt, lt-ltb, le-ltb}
 use Rattle.std.proofs.lemmas.List.{append_cancel_left}
 use Rattle.std.proofs.lemmas.List.Elements.{All-get_or}
 use Rattle.hw_model.specs.Problem.{IsTimetable, Problem, horizon}
-use Rattle.hw_svg.specs.Sheets.{group_end, list_begin, picture_begin, title_end}
+use Rattle.hw_chart_svg.specs.Sheets.{group_end, list_begin, picture_begin, title_end}
 use Rattle.hw_chart.specs.declared.course.Course.{Course}
 use Rattle.hw_chart.specs.declared.course.Course.TheVariants.{Unplanned, Stays, Sails}
 use Rattle.hw_chart.specs.declared.outcome.CargoUnit.TheVariants.{Plain as PlainUnit}
@@ -12,11 +12,11 @@ use Rattle.hw_chart.specs.declared.outcome.Outcome.{Outcome}
 use Rattle.hw_chart.specs.Courses.{SailsBefore, course_of}
 use Rattle.hw_chart.specs.Headings.{ground, heading_lines, style}
 use Rattle.hw_chart.specs.Outcomes.{badge, title_text}
-use Rattle.hw_flat_chart.specs.Fleets.{fleets, picture_span}
-use Rattle.hw_flat_chart.specs.Legends.{flat_legend}
-use Rattle.hw_flat_chart.specs.Pictures.{body, flat_picture_bottom, flat_columns, flat_picture, flat_foot, flat_head, panels_y, planned_body, planned_panels, flat_picture_sizes}
-use Rattle.hw_flat_chart.specs.Rows.{course_text, planned_row, planned_row_text, planned_rows}
-use Rattle.hw_flat_chart.specs.Values.{cargo_in_slot}
+use Rattle.hw_chart_flat.specs.Fleets.{fleets, picture_span}
+use Rattle.hw_chart_flat.specs.Legends.{flat_legend}
+use Rattle.hw_chart_flat.specs.Pictures.{body, flat_picture_bottom, flat_columns, flat_picture, flat_foot, flat_head, panels_y, planned_body, planned_panels, flat_picture_sizes}
+use Rattle.hw_chart_flat.specs.Rows.{course_text, planned_row, planned_row_text, planned_rows}
+use Rattle.hw_chart_flat.specs.Values.{cargo_in_slot}
 use Rattle.hw_chart_laws.proofs.Calm.{Still, both, calm_writing, cut, spelled}
 use Rattle.hw_chart_laws.proofs.FlatParts.{of_columns, of_legend, of_planned_rest, spelled_sizes}
 use Rattle.hw_chart_laws.proofs.FlatTrees.{flat_title, planned_is, planned_rest, spelled_title}

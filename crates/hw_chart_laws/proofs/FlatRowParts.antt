@@ -3,21 +3,21 @@ use Rattle.std.proofs.Common.{◌≡◌, ◌<◌, ◌≤◌, ◌+◌, ◌-◌, �
 use Rattle.std.specs.List.{list_all}
 use Rattle.hw_model.specs.Limits.{IsFlat}
 use Rattle.hw_model.specs.Problem.{IsTimetable, Problem, horizon, value_at}
-use Rattle.hw_svg.specs.Figures.{steps, steps_path}
-use Rattle.hw_svg.specs.Lettering.{line, text_begin}
-use Rattle.hw_svg.specs.Shapes.{area_path, block, shape_begin}
-use Rattle.hw_svg.specs.Sheets.{group_end, item_begin, svg_end, title_end, window_begin}
-use Rattle.hw_svg.specs.declared.area.Area.{Area}
-use Rattle.hw_svg.specs.declared.sheet.Window.{Window}
+use Rattle.hw_chart_svg.specs.Figures.{steps, steps_path}
+use Rattle.hw_chart_svg.specs.Lettering.{line, text_begin}
+use Rattle.hw_chart_svg.specs.Shapes.{area_path, block, shape_begin}
+use Rattle.hw_chart_svg.specs.Sheets.{group_end, item_begin, svg_end, title_end, window_begin}
+use Rattle.hw_chart_svg.specs.declared.area.Area.{Area}
+use Rattle.hw_chart_svg.specs.declared.sheet.Window.{Window}
 use Rattle.hw_chart.specs.declared.course.Course.{Course}
 use Rattle.hw_chart.specs.declared.course.Course.TheVariants.{Unplanned, Stays, Sails}
 use Rattle.hw_chart.specs.Layout.{plot, stripe}
 use Rattle.hw_chart.specs.Rows.{moves_window}
 use Rattle.hw_chart.proofs.Ranks.{rank_small}
-use Rattle.hw_flat_chart.specs.declared.row.Row.{Row}
-use Rattle.hw_flat_chart.specs.Moves.{flat_open_level}
-use Rattle.hw_flat_chart.specs.Rows.{course_parts, nowhere_text, planned_row, flat_row_label, row_top, unplanned_row, value_mark, values_text}
-use Rattle.hw_flat_chart.specs.Values.{most_carried, most_level, tall_of, value_level}
+use Rattle.hw_chart_flat.specs.declared.row.Row.{Row}
+use Rattle.hw_chart_flat.specs.Moves.{flat_open_level}
+use Rattle.hw_chart_flat.specs.Rows.{course_parts, nowhere_text, planned_row, flat_row_label, row_top, unplanned_row, value_mark, values_text}
+use Rattle.hw_chart_flat.specs.Values.{most_carried, most_level, tall_of, value_level}
 use Rattle.hw_chart_laws.specs.Alike.{flat_row}
 use Rattle.hw_chart_laws.specs.Trees.{is_plain_byte}
 use Rattle.hw_chart_laws.proofs.FlatTrees.{flat_title, planned_is, spelled_title, unplanned_is}

@@ -1,7 +1,7 @@
 -- The picture of a flat problem is one element of trees.
 use Rattle.std.proofs.Common.{◌≡◌, ◌++◌, ◌+◌, ℕ, zero, suc, Option, Some, None, List, [], ◌∷◌, codes, decimal, refl, sym, subst, append_assoc, append-nil}
 use Rattle.hw_model.specs.Problem.{Problem, horizon}
-use Rattle.hw_svg.specs.Sheets.{group_end, item_begin, list_of, picture, picture_begin, svg_end, title_end}
+use Rattle.hw_chart_svg.specs.Sheets.{group_end, item_begin, list_of, picture, picture_begin, svg_end, title_end}
 use Rattle.hw_chart.specs.declared.grid.Scale.TheVariants.{Slots}
 use Rattle.hw_chart.specs.declared.outcome.CargoUnit.TheVariants.{Plain as PlainUnit}
 use Rattle.hw_chart.specs.declared.outcome.Outcome.{Outcome}
@@ -10,12 +10,12 @@ use Rattle.hw_chart.specs.Headings.{ground, heading_lines, style}
 use Rattle.hw_chart.specs.Layout.{stripe}
 use Rattle.hw_chart.specs.Outcomes.{badge, title_text}
 use Rattle.hw_chart.specs.Rows.{moves_window}
-use Rattle.hw_flat_chart.specs.declared.row.Row.{Row}
-use Rattle.hw_flat_chart.specs.Fleets.{fleets, picture_span}
-use Rattle.hw_flat_chart.specs.Moves.{flat_open_level}
-use Rattle.hw_flat_chart.specs.Legends.{flat_legend}
-use Rattle.hw_flat_chart.specs.Pictures.{body, flat_picture_bottom, flat_picture, flat_foot, flat_head, panels_y, planned_body, flat_picture_sizes, unplanned_body}
-use Rattle.hw_flat_chart.specs.Rows.{course_parts, course_text, nowhere_text, planned_row, planned_row_text, planned_rows, flat_row_begin, flat_row_label, flat_row_title, row_top, unplanned_row, unplanned_row_text, unplanned_rows, values_text}
+use Rattle.hw_chart_flat.specs.declared.row.Row.{Row}
+use Rattle.hw_chart_flat.specs.Fleets.{fleets, picture_span}
+use Rattle.hw_chart_flat.specs.Moves.{flat_open_level}
+use Rattle.hw_chart_flat.specs.Legends.{flat_legend}
+use Rattle.hw_chart_flat.specs.Pictures.{body, flat_picture_bottom, flat_picture, flat_foot, flat_head, panels_y, planned_body, flat_picture_sizes, unplanned_body}
+use Rattle.hw_chart_flat.specs.Rows.{course_parts, course_text, nowhere_text, planned_row, planned_row_text, planned_rows, flat_row_begin, flat_row_label, flat_row_title, row_top, unplanned_row, unplanned_row_text, unplanned_rows, values_text}
 use Rattle.hw_chart_laws.specs.Trees.{IsPicture}
 use Rattle.hw_chart_laws.proofs.Elements.{leads_item, leads_list, tree_writing}
 use Rattle.hw_chart_laws.proofs.FlatParts.{of_columns, of_legend, of_planned_panels, of_planned_rest, of_unplanned_panels, of_unplanned_rest, spelled_course, spelled_sizes}

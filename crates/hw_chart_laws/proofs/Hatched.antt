@@ -1,7 +1,7 @@
 -- Hatches of closed slots: where they begin and end.
 use Rattle.std.proofs.Common.{◌≡◌, ◌<◌, ◌≤◌, ◌+◌, ◌-◌, ◌∙◌, ℕ, zero, suc, Bool, true, false, nat_lt, sym, subst, arith, inl, inr}
 use Rattle.std.proofs.lemmas.Bool.{and_from, and_left, and_right, cases_Bool, cases_eq, cond_both, le-ltb, not_from_false, true≢false}
-use Rattle.hw_port_chart.specs.Closings.{run_begins, run_end}
+use Rattle.hw_chart_port.specs.Closings.{run_begins, run_end}
 use Rattle.hw_chart_laws.specs.Thirds.{Hatches}
 
 -- a run doesn't end before it begins

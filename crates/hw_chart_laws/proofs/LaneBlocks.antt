@@ -2,11 +2,11 @@
 use Rattle.std.proofs.Common.{◌≡◌, ◌+◌, ◌++◌, ◌∙◌, ℕ, Bool, true, false, nat_eq, List, [], ◌∷◌, refl, ap, sym, append_assoc, append-nil, if◌then◌else◌}
 use Rattle.hw_port.specs.declared.parts.Stretch.{Stretch}
 use Rattle.hw_port.specs.Parts.{ShipParts}
-use Rattle.hw_port_rules.specs.Numbers.{whole}
+use Rattle.hw_port_model.specs.Numbers.{whole}
 use Rattle.hw_chart.specs.declared.course.Course.{Course}
 use Rattle.hw_chart.specs.declared.course.Course.TheVariants.{Unplanned, Stays, Sails}
-use Rattle.hw_port_chart.specs.Charts.{ChartParts, course}
-use Rattle.hw_port_chart.specs.Lanes.{course_stays, stay_mark, stay_of, stays_from, stretch_mark, stretch_marks}
+use Rattle.hw_chart_port.specs.Charts.{ChartParts, course}
+use Rattle.hw_chart_port.specs.Lanes.{course_stays, stay_mark, stay_of, stays_from, stretch_mark, stretch_marks}
 use Rattle.hw_chart_laws.specs.Lanes.{Block, LanesAreBlocks, blocks_from, stay_marks_text, course_blocks, stretch_block, stretch_blocks}
 
 blocks-append : (section : List ℕ) (a b : List Block) → stay_marks_text section (a ++ b) ≡ stay_marks_text section a ++ stay_marks_text section b

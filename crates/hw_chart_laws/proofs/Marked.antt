@@ -2,17 +2,17 @@
 use Rattle.std.proofs.Common.{◌≡◌, ◌+◌, ◌++◌, ◌∙◌, ◌||◌, ℕ, Bool, true, false, not, nat_eq, nat_lt, List, [], ◌∷◌, codes, decimal, drop, get_or, refl, ap, sym, arith, append_assoc, append-nil, if◌then◌else◌}
 use Rattle.std.specs.List.{list_all}
 use Rattle.std.proofs.lemmas.Bool.{and_parts, cond_both}
-use Rattle.hw_svg.specs.Joined.{joined}
-use Rattle.hw_svg.specs.Lettering.{line, name_line, text_begin}
-use Rattle.hw_svg.specs.Marks.{is_word}
-use Rattle.hw_svg.specs.Names.{escaped}
-use Rattle.hw_svg.specs.Shapes.{block, shape, shape_begin}
-use Rattle.hw_svg.specs.Shortened.{shortened}
-use Rattle.hw_svg.specs.Sheets.{window_begin}
-use Rattle.hw_svg.specs.Widths.{width_of}
-use Rattle.hw_svg.specs.declared.area.Area.{Area}
-use Rattle.hw_svg.specs.declared.sheet.Window.{Window}
-use Rattle.hw_svg.proofs.Words.{name_is_word}
+use Rattle.hw_chart_svg.specs.Joined.{joined}
+use Rattle.hw_chart_svg.specs.Lettering.{line, name_line, text_begin}
+use Rattle.hw_chart_svg.specs.Marks.{is_word}
+use Rattle.hw_chart_svg.specs.Names.{escaped}
+use Rattle.hw_chart_svg.specs.Shapes.{block, shape, shape_begin}
+use Rattle.hw_chart_svg.specs.Shortened.{shortened}
+use Rattle.hw_chart_svg.specs.Sheets.{window_begin}
+use Rattle.hw_chart_svg.specs.Widths.{width_of}
+use Rattle.hw_chart_svg.specs.declared.area.Area.{Area}
+use Rattle.hw_chart_svg.specs.declared.sheet.Window.{Window}
+use Rattle.hw_chart_svg.proofs.Words.{name_is_word}
 use Rattle.hw_chart_laws.specs.Trees.{is_plain_byte}
 use Rattle.hw_chart_laws.proofs.Calm.{plain_words}
 use Rattle.hw_chart_laws.proofs.Plain.{Plain, area, letters, number}

@@ -6,12 +6,12 @@ use Rattle.hw_port.specs.Kept.{PortKept}
 use Rattle.hw_port.specs.Whole.{Parts}
 use Rattle.hw_tide.specs.Levels.{TideParts}
 use Rattle.hw_port_laws.proofs.Ships.{ship_kept, stretch_kept}
-use Rattle.hw_port_rules.specs.Numbers.{horizon_of, is_outgoing, whole}
+use Rattle.hw_port_model.specs.Numbers.{horizon_of, is_outgoing, whole}
 use Rattle.hw_chart.specs.declared.course.Course.TheVariants.{Stays, Sails}
 use Rattle.hw_chart.specs.Courses.{course_of}
-use Rattle.hw_port_chart.specs.Charts.{course}
-use Rattle.hw_port_chart.specs.Lanes.{stay_of}
-use Rattle.hw_port_chart.specs.Pictures.{chart_of}
+use Rattle.hw_chart_port.specs.Charts.{course}
+use Rattle.hw_chart_port.specs.Lanes.{stay_of}
+use Rattle.hw_chart_port.specs.Pictures.{chart_of}
 use Rattle.hw_chart_laws.specs.Lanes.{Block, BlocksAreOccupations, Covers, IsOccupied, OneWayIsSeen, lane_of}
 use Rattle.hw_chart_laws.proofs.Stretches.{from_ships, into_ships, into_stretches}
 

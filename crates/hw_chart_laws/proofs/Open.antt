@@ -1,7 +1,7 @@
 -- Elements that have begun and not ended yet, innermost last.
 use Rattle.std.proofs.Common.{◌≡◌, ◌++◌, ◌∙◌, ◌&&◌, ℕ, Bool, true, List, [], ◌∷◌, codes, refl, ap, sym, subst, append_assoc, append-nil}
 use Rattle.std.proofs.lemmas.Bool.{and_parts, and_from}
-use Rattle.hw_svg.specs.Trees.{Attribute, Node, Nodes, words, element, no_more, node, node_text, nodes_text, attributes_text}
+use Rattle.hw_chart_svg.specs.Trees.{Attribute, Node, Nodes, words, element, no_more, node, node_text, nodes_text, attributes_text}
 use Rattle.hw_chart_laws.proofs.Writing.{Tags}
 use Rattle.hw_chart_laws.specs.Trees.{are_attributes, are_trees, is_element_name, is_tree}
 

@@ -4,9 +4,9 @@ use Rattle.std.specs.Fmt.{digits, digits_onto, digit_glyph}
 use Rattle.std.specs.List.{list_all}
 use Rattle.std.proofs.lemmas.Bool.{and_from, cond_both, ne_eqb, lt-ltb}
 use Rattle.std.proofs.lemmas.List.Folds.{list_all-append}
-use Rattle.hw_svg.specs.Figures.{move, moves, steps_begin, steps_end, steps_path}
-use Rattle.hw_svg.specs.Shapes.{area_path}
-use Rattle.hw_svg.specs.declared.area.Area.{Area}
+use Rattle.hw_chart_svg.specs.Figures.{move, moves, steps_begin, steps_end, steps_path}
+use Rattle.hw_chart_svg.specs.Shapes.{area_path}
+use Rattle.hw_chart_svg.specs.declared.area.Area.{Area}
 use Rattle.hw_chart_laws.specs.Trees.{is_plain_byte}
 
 -- no mark stands in a text

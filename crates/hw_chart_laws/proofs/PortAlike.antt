@@ -10,14 +10,14 @@ use Rattle.hw_port.specs.Parts.{ShipParts}
 use Rattle.hw_port.specs.Whole.{Parts}
 use Rattle.hw_tide.specs.Levels.{TideParts}
 use Rattle.hw_port_laws.proofs.Ships.{ship_kept}
-use Rattle.hw_port_rules.specs.Drafts.{allowed_draft, floating, in_window, loaded, may_sail, sailing, sailing_draft}
-use Rattle.hw_port_rules.specs.Numbers.{is_outgoing, whole}
-use Rattle.hw_svg.specs.Numbers.{metres}
-use Rattle.hw_port_chart.proofs.Bounds.{sails_between}
+use Rattle.hw_port_model.specs.Drafts.{allowed_draft, floating, in_window, loaded, may_sail, sailing, sailing_draft}
+use Rattle.hw_port_model.specs.Numbers.{is_outgoing, whole}
+use Rattle.hw_chart_svg.specs.Numbers.{metres}
+use Rattle.hw_chart_port.proofs.Bounds.{sails_between}
 use Rattle.hw_chart.proofs.Ranks.{rank_small}
-use Rattle.hw_port_chart.specs.Charts.{ChartParts, IsChart, full_of, tall_between}
-use Rattle.hw_port_chart.specs.Drafts.{draft_level, short_level}
-use Rattle.hw_port_chart.specs.Rows.{rank_in, ranked_row, row_y}
+use Rattle.hw_chart_port.specs.Charts.{ChartParts, IsChart, full_of, tall_between}
+use Rattle.hw_chart_port.specs.Drafts.{draft_level, short_level}
+use Rattle.hw_chart_port.specs.Rows.{rank_in, ranked_row, row_y}
 use Rattle.hw_chart_laws.proofs.Bars.{short_less}
 use Rattle.hw_chart_laws.proofs.PortRowParts.{ground_area, number_text, shared}
 use Rattle.hw_chart_laws.proofs.Reading.{number_parted}

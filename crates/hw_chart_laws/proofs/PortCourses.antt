@@ -3,15 +3,15 @@ use Rattle.std.proofs.Common.{◌≡◌, ◌<◌, ◌^◌, ◌++◌, ◌∙◌, 
 use Rattle.std.proofs.lemmas.Bool.{cases_lt, lt-ltb, le-ltb}
 use Rattle.std.proofs.lemmas.List.{append_cancel_left}
 use Rattle.hw_port.specs.Parts.{ShipParts}
-use Rattle.hw_port_rules.specs.Numbers.{is_outgoing}
-use Rattle.hw_svg.specs.Numbers.{clock}
-use Rattle.hw_svg.specs.Sheets.{title_end}
+use Rattle.hw_port_model.specs.Numbers.{is_outgoing}
+use Rattle.hw_chart_svg.specs.Numbers.{clock}
+use Rattle.hw_chart_svg.specs.Sheets.{title_end}
 use Rattle.hw_chart.specs.declared.course.Course.{Course}
 use Rattle.hw_chart.specs.declared.course.Course.TheVariants.{Unplanned, Stays, Sails}
 use Rattle.hw_chart.specs.Courses.{SailsBefore, course_of}
-use Rattle.hw_port_chart.specs.Charts.{ChartParts, charted_waypoint_name}
-use Rattle.hw_port_chart.specs.Sailings.{sailing_of}
-use Rattle.hw_port_chart.specs.Titles.{course_title, load_title, time_title, way_title}
+use Rattle.hw_chart_port.specs.Charts.{ChartParts, charted_waypoint_name}
+use Rattle.hw_chart_port.specs.Sailings.{sailing_of}
+use Rattle.hw_chart_port.specs.Titles.{course_title, load_title, time_title, way_title}
 use Rattle.hw_chart_laws.proofs.Reading.{after_both, number_back}
 
 abbrev way_text : Bool → List ℕ

@@ -5,30 +5,30 @@ use Rattle.hw_port.specs.declared.parts.Section.{Section}
 use Rattle.hw_port.specs.declared.parts.Stretch.{Stretch}
 use Rattle.hw_port.specs.declared.parts.Waypoint.{Waypoint}
 use Rattle.hw_port.specs.Parts.{ShipParts}
-use Rattle.hw_port_rules.specs.Numbers.{is_outgoing, whole}
+use Rattle.hw_port_model.specs.Numbers.{is_outgoing, whole}
 use Rattle.hw_chart.specs.declared.course.Course.{Course}
 use Rattle.hw_chart.specs.declared.course.Course.TheVariants.{Unplanned, Stays, Sails}
 use Rattle.hw_chart.specs.Legends.{legend_begin}
 use Rattle.hw_chart.specs.Layout.{plot}
-use Rattle.hw_port_chart.specs.declared.heights.Heights.{Heights}
-use Rattle.hw_port_chart.specs.declared.passing.Strip.{Strip}
-use Rattle.hw_port_chart.specs.declared.passing.Underway.{Underway}
-use Rattle.hw_port_chart.specs.Charts.{ChartParts, course, shown, tall_between, charted_waypoint_name}
-use Rattle.hw_port_chart.specs.Fleets.{fleet_panel, tugs_held_in, panel_of}
-use Rattle.hw_port_chart.specs.Heads.{columns, columns_where}
-use Rattle.hw_port_chart.specs.declared.marks.Mark.{Mark}
-use Rattle.hw_port_chart.specs.declared.marks.Mark.TheVariants.{Tide, OfWindow, OfSailing, WholeFleet}
-use Rattle.hw_port_chart.specs.declared.marks.WindowMark.{WindowMark}
-use Rattle.hw_port_chart.specs.declared.marks.WindowMark.TheVariants.{MaySail, FullDraft, CouldMove, Outgoing, Incoming, Closed}
-use Rattle.hw_port_chart.specs.declared.marks.SailingMark.{SailingMark}
-use Rattle.hw_port_chart.specs.declared.marks.SailingMark.TheVariants.{Passes, PassesOut, HoldsTugs, TugsTurn, MustWait, WaitsOn, AtLimit, BelowFull}
-use Rattle.hw_port_chart.specs.Legends.{legend_marks, class_of_sailing, mark_entries, mark_entry, port_legend, sailing_says, window_class, window_says}
-use Rattle.hw_port_chart.specs.Marks.{has_mark}
-use Rattle.hw_port_chart.specs.Lanes.{course_stays, lane_begin, lane_text, lane_y, lanes_from, stay_of, stays_from, stretch_marks}
-use Rattle.hw_port_chart.specs.Passings.{course_marks, marks_from, pass_marks, passing, passing_area, underway}
-use Rattle.hw_port_chart.specs.Pictures.{legend_of}
-use Rattle.hw_port_chart.specs.Signs.{has_closings}
-use Rattle.hw_port_chart.specs.Strips.{greatest_of, height_in, heights_of, least_height, strip_at_place, strip_heights, strip_label, strip_of, strip_text, strip_y, strips, strips_from, water_level}
+use Rattle.hw_chart_port.specs.declared.heights.Heights.{Heights}
+use Rattle.hw_chart_port.specs.declared.passing.Strip.{Strip}
+use Rattle.hw_chart_port.specs.declared.passing.Underway.{Underway}
+use Rattle.hw_chart_port.specs.Charts.{ChartParts, course, shown, tall_between, charted_waypoint_name}
+use Rattle.hw_chart_port.specs.Fleets.{fleet_panel, tugs_held_in, panel_of}
+use Rattle.hw_chart_port.specs.Heads.{columns, columns_where}
+use Rattle.hw_chart_port.specs.declared.marks.Mark.{Mark}
+use Rattle.hw_chart_port.specs.declared.marks.Mark.TheVariants.{Tide, OfWindow, OfSailing, WholeFleet}
+use Rattle.hw_chart_port.specs.declared.marks.WindowMark.{WindowMark}
+use Rattle.hw_chart_port.specs.declared.marks.WindowMark.TheVariants.{MaySail, FullDraft, CouldMove, Outgoing, Incoming, Closed}
+use Rattle.hw_chart_port.specs.declared.marks.SailingMark.{SailingMark}
+use Rattle.hw_chart_port.specs.declared.marks.SailingMark.TheVariants.{Passes, PassesOut, HoldsTugs, TugsTurn, MustWait, WaitsOn, AtLimit, BelowFull}
+use Rattle.hw_chart_port.specs.Legends.{legend_marks, class_of_sailing, mark_entries, mark_entry, port_legend, sailing_says, window_class, window_says}
+use Rattle.hw_chart_port.specs.Marks.{has_mark}
+use Rattle.hw_chart_port.specs.Lanes.{course_stays, lane_begin, lane_text, lane_y, lanes_from, stay_of, stays_from, stretch_marks}
+use Rattle.hw_chart_port.specs.Passings.{course_marks, marks_from, pass_marks, passing, passing_area, underway}
+use Rattle.hw_chart_port.specs.Pictures.{legend_of}
+use Rattle.hw_chart_port.specs.Signs.{has_closings}
+use Rattle.hw_chart_port.specs.Strips.{greatest_of, height_in, heights_of, least_height, strip_at_place, strip_heights, strip_label, strip_of, strip_text, strip_y, strips, strips_from, water_level}
 use Rattle.hw_chart_laws.proofs.Legends.{AreSound, IsSound, of_legend_from}
 use Rattle.hw_chart_laws.proofs.Plain.{Plain, letters}
 use Rattle.hw_chart_laws.proofs.PortTexts.{plain_mark, plain_stay, spelled_passing, spelled_stay}

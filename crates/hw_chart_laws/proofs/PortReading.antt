@@ -6,23 +6,23 @@ use Rattle.std.proofs.lemmas.Option.{slice_get-get_or}
 use Rattle.hw_port.specs.Parts.{ShipParts}
 use Rattle.hw_port.specs.Whole.{Parts}
 use Rattle.hw_tide.specs.Levels.{TideParts}
-use Rattle.hw_port_rules.specs.Numbers.{horizon_of, some_may_stay}
-use Rattle.hw_port_rules.specs.Timetables.{IsPortTimetable}
-use Rattle.hw_svg.specs.Sheets.{group_end, list_begin, picture_begin}
+use Rattle.hw_port_model.specs.Numbers.{horizon_of, some_may_stay}
+use Rattle.hw_port_model.specs.Timetables.{IsPortTimetable}
+use Rattle.hw_chart_svg.specs.Sheets.{group_end, list_begin, picture_begin}
 use Rattle.hw_chart.specs.declared.outcome.CargoUnit.TheVariants.{Tonnes}
 use Rattle.hw_chart.specs.declared.outcome.Outcome.{Outcome}
 use Rattle.hw_chart.specs.Courses.{SailsBefore, course_of}
 use Rattle.hw_chart.specs.Headings.{ground, heading_lines, style}
 use Rattle.hw_chart.specs.Outcomes.{badge, title_text}
-use Rattle.hw_port_chart.specs.Charts.{ChartParts, course}
-use Rattle.hw_port_chart.specs.Fleets.{fleet_panel}
-use Rattle.hw_port_chart.specs.Heads.{columns_where, places, sizes}
-use Rattle.hw_port_chart.specs.Lanes.{lanes_from}
-use Rattle.hw_port_chart.specs.Pictures.{chart_of, foot, legend_of, picture_of_chart, port_picture}
-use Rattle.hw_port_chart.specs.Reasons.{hint_by}
-use Rattle.hw_port_chart.specs.Rows.{rank_in, rows_from}
-use Rattle.hw_port_chart.specs.Strips.{strips}
-use Rattle.hw_port_chart.specs.Titles.{course_title, ship_title}
+use Rattle.hw_chart_port.specs.Charts.{ChartParts, course}
+use Rattle.hw_chart_port.specs.Fleets.{fleet_panel}
+use Rattle.hw_chart_port.specs.Heads.{columns_where, places, sizes}
+use Rattle.hw_chart_port.specs.Lanes.{lanes_from}
+use Rattle.hw_chart_port.specs.Pictures.{chart_of, foot, legend_of, picture_of_chart, port_picture}
+use Rattle.hw_chart_port.specs.Reasons.{hint_by}
+use Rattle.hw_chart_port.specs.Rows.{rank_in, rows_from}
+use Rattle.hw_chart_port.specs.Strips.{strips}
+use Rattle.hw_chart_port.specs.Titles.{course_title, ship_title}
 use Rattle.hw_chart_laws.proofs.Calm.{Still, both, calm_writing, cut, spelled}
 use Rattle.hw_chart_laws.proofs.FlatReading.{slots_same}
 use Rattle.hw_chart_laws.proofs.PortCourses.{course_back, small_course}

@@ -1,22 +1,22 @@
 -- The rows of a port's picture, part by part, and what two that are written alike have in common.
 use Rattle.std.proofs.Common.{◌≡◌, ◌+◌, ◌-◌, ◌%◌, ◌++◌, ◌∙◌, ℕ, Bool, true, false, nat_eq, List, [], codes, decimal, get_or, refl, ap, sym, arith, append_assoc, append-nil, if◌then◌else◌}
 use Rattle.hw_port.specs.Parts.{ShipParts}
-use Rattle.hw_port_rules.specs.Numbers.{is_outgoing, whole}
-use Rattle.hw_svg.specs.Figures.{steps_path}
-use Rattle.hw_svg.specs.Lettering.{line}
-use Rattle.hw_svg.specs.Numbers.{metres}
-use Rattle.hw_svg.specs.Shapes.{area_path, block, shape, shape_begin}
-use Rattle.hw_svg.specs.Sheets.{group_end, item_begin, svg_end, title_end, window_begin}
-use Rattle.hw_svg.specs.declared.area.Area.{Area}
-use Rattle.hw_svg.specs.declared.sheet.Window.{Window}
+use Rattle.hw_port_model.specs.Numbers.{is_outgoing, whole}
+use Rattle.hw_chart_svg.specs.Figures.{steps_path}
+use Rattle.hw_chart_svg.specs.Lettering.{line}
+use Rattle.hw_chart_svg.specs.Numbers.{metres}
+use Rattle.hw_chart_svg.specs.Shapes.{area_path, block, shape, shape_begin}
+use Rattle.hw_chart_svg.specs.Sheets.{group_end, item_begin, svg_end, title_end, window_begin}
+use Rattle.hw_chart_svg.specs.declared.area.Area.{Area}
+use Rattle.hw_chart_svg.specs.declared.sheet.Window.{Window}
 use Rattle.hw_chart.specs.declared.course.Course.{Course}
 use Rattle.hw_chart.specs.declared.course.Course.TheVariants.{Unplanned, Stays, Sails}
 use Rattle.hw_chart.specs.declared.row.Sailings.{Sailings}
 use Rattle.hw_chart.specs.Layout.{plot, stripe}
-use Rattle.hw_port_chart.specs.Charts.{ChartParts, course, full_of, mark_class, tall_between, way}
-use Rattle.hw_port_chart.specs.Closings.{closings}
-use Rattle.hw_port_chart.specs.Drafts.{draft_level, draft_steps, full_sailings, full_steps, fullness_level, moves_text, sailing_where, window_of}
-use Rattle.hw_port_chart.specs.Rows.{arrow, arrow_path, full_draft_word, rank_in, ranked_row, row_name, row_right, row_y}
+use Rattle.hw_chart_port.specs.Charts.{ChartParts, course, full_of, mark_class, tall_between, way}
+use Rattle.hw_chart_port.specs.Closings.{closings}
+use Rattle.hw_chart_port.specs.Drafts.{draft_level, draft_steps, full_sailings, full_steps, fullness_level, moves_text, sailing_where, window_of}
+use Rattle.hw_chart_port.specs.Rows.{arrow, arrow_path, full_draft_word, rank_in, ranked_row, row_name, row_right, row_y}
 use Rattle.hw_chart_laws.proofs.Marked.{AsMany, Begins, begins_either, both, fixed, line_first, name_first, of_block, of_line, of_shape, of_window, past_stripe, shape_first, spelled, told, told_name, window_first}
 use Rattle.hw_chart_laws.proofs.Plain.{Plain, letters, path}
 use Rattle.hw_chart_laws.proofs.PortTexts.{plain_arrow, plain_way, spelled_full, spelled_row}

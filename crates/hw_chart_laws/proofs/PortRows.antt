@@ -1,25 +1,25 @@
 -- The rows of a port's picture, made of what a picture is written with.
 use Rattle.std.proofs.Common.{◌++◌, ◌+◌, ◌-◌, ℕ, zero, suc, nat_eq, nat_lt, is_some, List, [], ◌∷◌, codes, refl, if◌then◌else◌}
-use Rattle.hw_svg.specs.Sheets.{group_end}
+use Rattle.hw_chart_svg.specs.Sheets.{group_end}
 use Rattle.hw_port.specs.declared.parts.AfterPair.{AfterPair}
 use Rattle.hw_port.specs.declared.parts.BerthPair.{BerthPair}
 use Rattle.hw_port.specs.Parts.{ShipParts}
-use Rattle.hw_port_rules.specs.Numbers.{hold_of, horizon_of, is_outgoing, whole}
+use Rattle.hw_port_model.specs.Numbers.{hold_of, horizon_of, is_outgoing, whole}
 use Rattle.hw_chart.specs.declared.course.Course.{Course}
 use Rattle.hw_chart.specs.declared.course.Course.TheVariants.{Unplanned, Stays, Sails}
 use Rattle.hw_chart.specs.declared.row.Sailings.{Sailings}
 use Rattle.hw_chart.specs.Layout.{plot, stripe}
-use Rattle.hw_port_chart.specs.declared.sailing.Sailing.{Sailing}
-use Rattle.hw_port_chart.specs.declared.stays.Wait.{Wait}
-use Rattle.hw_port_chart.specs.Bars.{bars, clearings}
-use Rattle.hw_port_chart.specs.Charts.{ChartParts, course, full_of, slot_in_chart, charted_waypoint_name}
-use Rattle.hw_port_chart.specs.Closings.{closings_from}
-use Rattle.hw_port_chart.specs.Drafts.{draft_level, drafts_text, fullness_level, open_level, sailing_where, window_of}
-use Rattle.hw_port_chart.specs.Figures.{allowed_figures, deepest_cargo, cargo_figures, draft_figures, figures, keel_figures, keel_of_sailing, time_figures}
-use Rattle.hw_port_chart.specs.Rows.{row_left, row_number, row_right, row_windows, row_y}
-use Rattle.hw_port_chart.specs.Sailings.{sailing_of}
-use Rattle.hw_port_chart.specs.Spans.{last_pass_offset}
-use Rattle.hw_port_chart.specs.Stays.{chart_ship_name, stays_of, wait_of}
+use Rattle.hw_chart_port.specs.declared.sailing.Sailing.{Sailing}
+use Rattle.hw_chart_port.specs.declared.stays.Wait.{Wait}
+use Rattle.hw_chart_port.specs.Bars.{bars, clearings}
+use Rattle.hw_chart_port.specs.Charts.{ChartParts, course, full_of, slot_in_chart, charted_waypoint_name}
+use Rattle.hw_chart_port.specs.Closings.{closings_from}
+use Rattle.hw_chart_port.specs.Drafts.{draft_level, drafts_text, fullness_level, open_level, sailing_where, window_of}
+use Rattle.hw_chart_port.specs.Figures.{allowed_figures, deepest_cargo, cargo_figures, draft_figures, figures, keel_figures, keel_of_sailing, time_figures}
+use Rattle.hw_chart_port.specs.Rows.{row_left, row_number, row_right, row_windows, row_y}
+use Rattle.hw_chart_port.specs.Sailings.{sailing_of}
+use Rattle.hw_chart_port.specs.Spans.{last_pass_offset}
+use Rattle.hw_chart_port.specs.Stays.{chart_ship_name, stays_of, wait_of}
 use Rattle.hw_chart_laws.proofs.Plain.{letters}
 use Rattle.hw_chart_laws.proofs.PortTexts.{plain_arrow, plain_mark, plain_tight, plain_way, spelled_closing, spelled_full, spelled_short, spelled_wait}
 use Rattle.hw_chart_laws.proofs.PortWaters.{of_reasons}

@@ -2,23 +2,23 @@
 use Rattle.std.proofs.Common.{◌+◌, ◌-◌, ℕ, nat_eq, List, codes, refl}
 use Rattle.hw_port.specs.Parts.{ShipParts}
 use Rattle.hw_port.specs.Whole.{Parts}
-use Rattle.hw_port_rules.specs.Numbers.{is_outgoing}
+use Rattle.hw_port_model.specs.Numbers.{is_outgoing}
 use Rattle.hw_chart.specs.declared.course.Course.{Course}
 use Rattle.hw_chart.specs.declared.course.Course.TheVariants.{Unplanned, Stays, Sails}
-use Rattle.hw_port_chart.specs.declared.lane.Stay.{Stay}
-use Rattle.hw_port_chart.specs.declared.passing.Passing.{Passing}
-use Rattle.hw_port_chart.specs.declared.sailing.Sailing.{Sailing}
-use Rattle.hw_port_chart.specs.declared.stays.Wait.{Wait}
-use Rattle.hw_port_chart.specs.Charts.{ChartParts, mark_class, minutes_to, way, charted_waypoint_name}
-use Rattle.hw_port_chart.specs.Closings.{closing_title}
-use Rattle.hw_port_chart.specs.Figures.{shortness, tight}
-use Rattle.hw_port_chart.specs.Heads.{sizes, sizes_text}
-use Rattle.hw_port_chart.specs.Lanes.{stay_class, stay_title}
-use Rattle.hw_port_chart.specs.Passings.{passing_title}
-use Rattle.hw_port_chart.specs.Rows.{arrow_path, full_draft_word}
-use Rattle.hw_port_chart.specs.Sailings.{sailing_of}
-use Rattle.hw_port_chart.specs.Stays.{wait_title}
-use Rattle.hw_port_chart.specs.Titles.{course_title, load_title, row_title, ship_title, time_title}
+use Rattle.hw_chart_port.specs.declared.lane.Stay.{Stay}
+use Rattle.hw_chart_port.specs.declared.passing.Passing.{Passing}
+use Rattle.hw_chart_port.specs.declared.sailing.Sailing.{Sailing}
+use Rattle.hw_chart_port.specs.declared.stays.Wait.{Wait}
+use Rattle.hw_chart_port.specs.Charts.{ChartParts, mark_class, minutes_to, way, charted_waypoint_name}
+use Rattle.hw_chart_port.specs.Closings.{closing_title}
+use Rattle.hw_chart_port.specs.Figures.{shortness, tight}
+use Rattle.hw_chart_port.specs.Heads.{sizes, sizes_text}
+use Rattle.hw_chart_port.specs.Lanes.{stay_class, stay_title}
+use Rattle.hw_chart_port.specs.Passings.{passing_title}
+use Rattle.hw_chart_port.specs.Rows.{arrow_path, full_draft_word}
+use Rattle.hw_chart_port.specs.Sailings.{sailing_of}
+use Rattle.hw_chart_port.specs.Stays.{wait_title}
+use Rattle.hw_chart_port.specs.Titles.{course_title, load_title, row_title, ship_title, time_title}
 use Rattle.hw_chart_laws.proofs.Plain.{Plain, both, letters, nothing as no_letters, number}
 use Rattle.hw_chart_laws.proofs.Shared.{either as either_plain}
 use Rattle.hw_chart_laws.proofs.Spelled.{Spelled, also, either, fixed, name, nothing, of_clock, of_metres, of_number, of_tenths}

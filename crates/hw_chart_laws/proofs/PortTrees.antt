@@ -3,19 +3,19 @@ use Rattle.std.proofs.Common.{◌≡◌, ◌++◌, ◌+◌, ℕ, Option, List, [
 use Rattle.hw_port.specs.Parts.{ShipParts}
 use Rattle.hw_port.specs.Whole.{Parts}
 use Rattle.hw_tide.specs.Levels.{TideParts}
-use Rattle.hw_port_rules.specs.Numbers.{horizon_of}
-use Rattle.hw_svg.specs.Sheets.{group_end, item_begin, picture, picture_begin, svg_end, title_end}
+use Rattle.hw_port_model.specs.Numbers.{horizon_of}
+use Rattle.hw_chart_svg.specs.Sheets.{group_end, item_begin, picture, picture_begin, svg_end, title_end}
 use Rattle.hw_chart.specs.declared.outcome.CargoUnit.TheVariants.{Tonnes}
 use Rattle.hw_chart.specs.declared.outcome.Outcome.{Outcome}
 use Rattle.hw_chart.specs.Headings.{ground, heading_lines, style}
 use Rattle.hw_chart.specs.Layout.{stripe}
 use Rattle.hw_chart.specs.Outcomes.{badge, title_text}
-use Rattle.hw_port_chart.specs.Charts.{ChartParts, course}
-use Rattle.hw_port_chart.specs.Heads.{places, sizes}
-use Rattle.hw_port_chart.specs.Pictures.{bottom, chart_of, horizon_line, legend_of, panels, picture_of_chart, port_picture, times}
-use Rattle.hw_port_chart.specs.Reasons.{hint_by}
-use Rattle.hw_port_chart.specs.Rows.{rank_in, ranked_row, row_left, row_right, row_windows, row_y, rows_from, ship_list}
-use Rattle.hw_port_chart.specs.Titles.{row_title}
+use Rattle.hw_chart_port.specs.Charts.{ChartParts, course}
+use Rattle.hw_chart_port.specs.Heads.{places, sizes}
+use Rattle.hw_chart_port.specs.Pictures.{bottom, chart_of, horizon_line, legend_of, panels, picture_of_chart, port_picture, times}
+use Rattle.hw_chart_port.specs.Reasons.{hint_by}
+use Rattle.hw_chart_port.specs.Rows.{rank_in, ranked_row, row_left, row_right, row_windows, row_y, rows_from, ship_list}
+use Rattle.hw_chart_port.specs.Titles.{row_title}
 use Rattle.hw_chart_laws.specs.Trees.{IsPicture}
 use Rattle.hw_chart_laws.proofs.Dated.{of_times}
 use Rattle.hw_chart_laws.proofs.Elements.{leads_item, leads_list, tree_writing}

@@ -1,18 +1,18 @@
 -- The high and low waters of a port's picture, and what it says where ships have no slot, made of what a picture is written with.
 use Rattle.std.proofs.Common.{true, false, Bool, ◌+◌, ◌-◌, ℕ, ℤ, List, [], ◌∷◌, codes, refl}
-use Rattle.hw_lines.specs.declared.check.Verdict.{Verdict}
-use Rattle.hw_lines.specs.declared.check.Verdict.TheVariants.{Optimal, Infeasible, Unfinished}
-use Rattle.hw_svg.specs.Numbers.{height_text}
+use Rattle.hw_cert_lines.specs.declared.check.Verdict.{Verdict}
+use Rattle.hw_cert_lines.specs.declared.check.Verdict.TheVariants.{Optimal, Infeasible, Unfinished}
+use Rattle.hw_chart_svg.specs.Numbers.{height_text}
 use Rattle.hw_port.specs.Parts.{ShipParts}
-use Rattle.hw_waters.specs.declared.stand.Stand.{Stand}
-use Rattle.hw_waters.specs.declared.stand.WaterKind.TheVariants.{High, Low}
-use Rattle.hw_waters.specs.Columns.{ColumnParts, column_height}
-use Rattle.hw_waters.specs.Labels.{label_of, named_stands, stand_time, water_labels, water_words}
-use Rattle.hw_port_chart.specs.declared.passing.Strip.{Strip}
-use Rattle.hw_port_chart.specs.declared.reasons.Reason.TheVariants.{Shut, TableEnds, TooShallow}
-use Rattle.hw_port_chart.specs.Charts.{ChartParts}
-use Rattle.hw_port_chart.specs.Reasons.{clash_hint, each_may_sail, has_no_slot, hint_by, keeps_in, no_slot_where, reasons_words}
-use Rattle.hw_port_chart.specs.Strips.{column_of, strip_waters, strip_y}
+use Rattle.hw_chart_waters.specs.declared.stand.Stand.{Stand}
+use Rattle.hw_chart_waters.specs.declared.stand.WaterKind.TheVariants.{High, Low}
+use Rattle.hw_chart_waters.specs.Columns.{ColumnParts, column_height}
+use Rattle.hw_chart_waters.specs.Labels.{label_of, named_stands, stand_time, water_labels, water_words}
+use Rattle.hw_chart_port.specs.declared.passing.Strip.{Strip}
+use Rattle.hw_chart_port.specs.declared.reasons.Reason.TheVariants.{Shut, TableEnds, TooShallow}
+use Rattle.hw_chart_port.specs.Charts.{ChartParts}
+use Rattle.hw_chart_port.specs.Reasons.{clash_hint, each_may_sail, has_no_slot, hint_by, keeps_in, no_slot_where, reasons_words}
+use Rattle.hw_chart_port.specs.Strips.{column_of, strip_waters, strip_y}
 use Rattle.hw_chart_laws.proofs.Shared.{if_so, says}
 use Rattle.hw_chart_laws.proofs.Spelled.{Spelled, also, fixed, nothing, of_clock, of_height}
 use Rattle.hw_chart_laws.proofs.Writing.{Tags, Writing}

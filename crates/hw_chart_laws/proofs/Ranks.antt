@@ -7,7 +7,7 @@ use Rattle.std.proofs.lemmas.List.FromFn.{get_or-enumerate_from, length-enumerat
 use Rattle.std.proofs.lemmas.List.Sums.{count_by-le-length, sum_by-cons}
 use Rattle.hw_lemmas.proofs.Truths.{one_le}
 use Rattle.hw_chart.specs.Layout.{rank_of, stands_above}
-use Rattle.hw_port_chart.specs.Rows.{rank_in}
+use Rattle.hw_chart_port.specs.Rows.{rank_in}
 
 -- ---- how often two tests hold
 

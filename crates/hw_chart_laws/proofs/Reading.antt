@@ -2,9 +2,9 @@
 use Rattle.std.proofs.Common.{◌≡◌, ◌<◌, ◌^◌, ◌++◌, ◌∙◌, ℕ, suc, false, List, [], ◌∷◌, codes, decimal, get_or, length, refl, ap, sym, arith, append_assoc}
 use Rattle.std.proofs.lemmas.List.{append_cancel_left}
 use Rattle.std.proofs.lemmas.Fmt.{decimal_injective}
-use Rattle.hw_svg.specs.Sheets.{item_begin, list_begin, title_end}
-use Rattle.hw_svg.proofs.Digits.{is_digit, digits_of}
-use Rattle.hw_svg.proofs.ReadBack.{parted}
+use Rattle.hw_chart_svg.specs.Sheets.{item_begin, list_begin, title_end}
+use Rattle.hw_chart_svg.proofs.Digits.{is_digit, digits_of}
+use Rattle.hw_chart_svg.proofs.ReadBack.{parted}
 use Rattle.hw_chart_laws.proofs.Calm.{Still, cut, cut_past}
 
 -- a number, and what follows it

@@ -2,11 +2,11 @@
 use Rattle.std.proofs.Common.{◌++◌, ◌+◌, ◌%◌, ℕ, zero, suc, Bool, true, nat_eq, nat_lt, ◌≡◌, List, [], ◌∷◌, codes, refl, if◌then◌else◌}
 use Rattle.std.specs.List.{list_all}
 use Rattle.std.proofs.lemmas.Bool.{cond_both}
-use Rattle.hw_lines.specs.declared.check.Verdict.{Verdict}
-use Rattle.hw_svg.specs.Figures.{steps}
-use Rattle.hw_svg.specs.Lettering.{line}
-use Rattle.hw_svg.specs.Shapes.{block}
-use Rattle.hw_svg.specs.declared.area.Area.{Area}
+use Rattle.hw_cert_lines.specs.declared.check.Verdict.{Verdict}
+use Rattle.hw_chart_svg.specs.Figures.{steps}
+use Rattle.hw_chart_svg.specs.Lettering.{line}
+use Rattle.hw_chart_svg.specs.Shapes.{block}
+use Rattle.hw_chart_svg.specs.declared.area.Area.{Area}
 use Rattle.hw_chart.specs.declared.grid.Axis.{Axis}
 use Rattle.hw_chart.specs.declared.grid.Scale.{Scale}
 use Rattle.hw_chart.specs.declared.grid.Scale.TheVariants.{Minutes, Slots}

@@ -2,12 +2,12 @@
 use Rattle.std.proofs.Common.{◌≡◌, ◌≤◌, ◌<◌, ◌+◌, ◌/◌, ◌%◌, ◌^◌, ◌++◌, ◌∙◌, ℕ, List, [], ◌∷◌, codes, decimal, drop, get_or, refl, ap, sym, arith, append_assoc, append-nil}
 use Rattle.std.proofs.lemmas.List.{append_cancel_left, append_cancel_right}
 use Rattle.std.proofs.lemmas.Fmt.{decimal_digit}
-use Rattle.hw_svg.specs.Figures.{steps, steps_begin, steps_path}
-use Rattle.hw_svg.specs.Lettering.{line, text_begin}
-use Rattle.hw_svg.specs.Numbers.{metres}
-use Rattle.hw_svg.specs.Shapes.{area_path, block, shape_begin}
-use Rattle.hw_svg.specs.declared.area.Area.{Area}
-use Rattle.hw_svg.proofs.ReadBack.{moves_back}
+use Rattle.hw_chart_svg.specs.Figures.{steps, steps_begin, steps_path}
+use Rattle.hw_chart_svg.specs.Lettering.{line, text_begin}
+use Rattle.hw_chart_svg.specs.Numbers.{metres}
+use Rattle.hw_chart_svg.specs.Shapes.{area_path, block, shape_begin}
+use Rattle.hw_chart_svg.specs.declared.area.Area.{Area}
+use Rattle.hw_chart_svg.proofs.ReadBack.{moves_back}
 use Rattle.hw_chart_laws.proofs.Reading.{number_parted}
 
 -- ---- lines

@@ -3,9 +3,9 @@ use Rattle.std.proofs.Common.{◌≡◌, ◌++◌, ℕ, ℤ, Bool, true, nat_eq,
 use Rattle.std.specs.Int.{is_negative}
 use Rattle.std.specs.List.{list_all}
 use Rattle.std.proofs.lemmas.Bool.{and_parts, cond_both}
-use Rattle.hw_svg.specs.Names.{byte_text, escaped}
-use Rattle.hw_svg.specs.Numbers.{clock, height_text, metres, tonnes_label, digit_pair}
-use Rattle.hw_svg.proofs.Shortened.{escaped_both}
+use Rattle.hw_chart_svg.specs.Names.{byte_text, escaped}
+use Rattle.hw_chart_svg.specs.Numbers.{clock, height_text, metres, tonnes_label, digit_pair}
+use Rattle.hw_chart_svg.proofs.Shortened.{escaped_both}
 use Rattle.hw_chart_laws.specs.Trees.{is_plain_byte}
 use Rattle.hw_chart_laws.proofs.Plain.{Plain, number}
 

@@ -5,11 +5,11 @@ use Rattle.std.proofs.lemmas.Bool.Decides.{Decides-eqb}
 use Rattle.std.proofs.lemmas.List.Elements.{Contains-append_cases, Contains-append_left, Contains-append_right}
 use Rattle.hw_port.specs.declared.parts.Stretch.{Stretch}
 use Rattle.hw_port.specs.Parts.{ShipParts}
-use Rattle.hw_port_rules.specs.Numbers.{whole}
+use Rattle.hw_port_model.specs.Numbers.{whole}
 use Rattle.hw_chart.specs.declared.course.Course.{Course}
 use Rattle.hw_chart.specs.declared.course.Course.TheVariants.{Unplanned, Stays, Sails}
-use Rattle.hw_port_chart.specs.Charts.{ChartParts, course}
-use Rattle.hw_port_chart.specs.Lanes.{stay_of}
+use Rattle.hw_chart_port.specs.Charts.{ChartParts, course}
+use Rattle.hw_chart_port.specs.Lanes.{stay_of}
 use Rattle.hw_chart_laws.specs.Lanes.{Block, blocks_from, course_blocks, stretch_block, stretch_blocks}
 
 -- ---- from a block to the stretch that it is of

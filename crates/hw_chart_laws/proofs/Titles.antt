@@ -1,9 +1,9 @@
 -- What a certificate shows is written without marks.
 use Rattle.std.proofs.Common.{ℕ, Option, Some, None, codes, refl}
-use Rattle.hw_lines.specs.declared.check.Verdict.{Verdict}
-use Rattle.hw_lines.specs.declared.check.Verdict.TheVariants.{Optimal, Infeasible, Unfinished}
-use Rattle.hw_svg.specs.Joined.{joined}
-use Rattle.hw_svg.specs.Numbers.{tonnes_label}
+use Rattle.hw_cert_lines.specs.declared.check.Verdict.{Verdict}
+use Rattle.hw_cert_lines.specs.declared.check.Verdict.TheVariants.{Optimal, Infeasible, Unfinished}
+use Rattle.hw_chart_svg.specs.Joined.{joined}
+use Rattle.hw_chart_svg.specs.Numbers.{tonnes_label}
 use Rattle.hw_chart.specs.declared.outcome.CargoUnit.{CargoUnit}
 use Rattle.hw_chart.specs.declared.outcome.CargoUnit.TheVariants.{Tonnes, Plain as PlainUnit}
 use Rattle.hw_chart.specs.declared.outcome.Outcome.{Outcome}

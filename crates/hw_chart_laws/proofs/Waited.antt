@@ -2,9 +2,9 @@
 use Rattle.std.proofs.Common.{◌≤◌, ◌+◌, ◌-◌, ◌*◌, ℕ, arith, inl, inr}
 use Rattle.std.proofs.lemmas.List.Elements.{All-contains}
 use Rattle.std.proofs.lemmas.Option.{unwrap_or-slice_get}
-use Rattle.hw_port_rules.specs.Numbers.{whole}
-use Rattle.hw_port_rules.specs.Permitted.{SailsAfter}
-use Rattle.hw_port_rules.specs.Timetables.{slot_of}
+use Rattle.hw_port_model.specs.Numbers.{whole}
+use Rattle.hw_port_model.specs.Permitted.{SailsAfter}
+use Rattle.hw_port_model.specs.Timetables.{slot_of}
 use Rattle.hw_chart_laws.specs.Thirds.{WaitsAreKept}
 
 minutes : (from gap until minute : ℕ) → from + gap ≤ until → gap * minute ≤ (until - from) * minute

@@ -1,12 +1,12 @@
 -- A picture is one element in which trees stand before its style sheet and after it.
 use Rattle.std.proofs.Common.{◌≡◌, ◌++◌, ◌∙◌, ◌-◌, ℕ, true, List, [], ◌∷◌, codes, decimal, length, take, drop, refl, ap, sym, append_assoc}
 use Rattle.std.specs.List.{list_all}
-use Rattle.hw_svg.specs.Joined.{joined}
-use Rattle.hw_svg.specs.Names.{byte_text}
-use Rattle.hw_svg.specs.Sheets.{picture, picture_begin, size_begin}
-use Rattle.hw_svg.specs.Trees.{Attribute, Nodes, words, no_more, node, node_text, attributes_text, nodes_text}
-use Rattle.hw_svg.specs.WellFormed.{attribute, picture_attributes, title_node}
-use Rattle.hw_svg.proofs.Nested.{picture_nested}
+use Rattle.hw_chart_svg.specs.Joined.{joined}
+use Rattle.hw_chart_svg.specs.Names.{byte_text}
+use Rattle.hw_chart_svg.specs.Sheets.{picture, picture_begin, size_begin}
+use Rattle.hw_chart_svg.specs.Trees.{Attribute, Nodes, words, no_more, node, node_text, attributes_text, nodes_text}
+use Rattle.hw_chart_svg.specs.WellFormed.{attribute, picture_attributes, title_node}
+use Rattle.hw_chart_svg.proofs.Nested.{picture_nested}
 use Rattle.hw_chart.specs.Headings.{style}
 use Rattle.hw_chart_laws.specs.Trees.{IsPicture, are_attributes, are_trees, inside, is_sheet}
 use Rattle.hw_chart_laws.proofs.Calm.{Still, fixed, both, plain}

@@ -1,17 +1,17 @@
 -- The reasons that a row names are those that `windows` tells of the ship's slots.
 use Rattle.std.proofs.Common.{◌≡◌, ◌≤◌, ◌<◌, ◌+◌, ◌-◌, ℕ, ℤ, pos, ◌≤ℤ◌, ◌<ℤ◌, Bool, true, Option, Some, None, is_none, unsigned_abs, refl, sym, subst, arith}
 use Rattle.std.proofs.lemmas.Int.{ints}
-use Rattle.hw_laws.proofs.Counting.{all_of_range, any_of_range, range_any}
+use Rattle.hw_model_laws.proofs.Counting.{all_of_range, any_of_range, range_any}
 use Rattle.hw_port.specs.Kept.{ShipKept}
 use Rattle.hw_port.specs.Parts.{ShipParts}
-use Rattle.hw_port_rules.specs.Drafts.{allowed, sailing}
-use Rattle.hw_port_rules.specs.Numbers.{horizon_of, whole}
-use Rattle.hw_windows.specs.declared.status.Status.{Status}
-use Rattle.hw_windows.specs.Closings.{closed_in}
-use Rattle.hw_windows.specs.Statuses.{reason_by, reason_in, status_by, status_in}
-use Rattle.hw_port_chart.specs.declared.reasons.Reason.{Reason}
-use Rattle.hw_port_chart.specs.Charts.{ChartParts}
-use Rattle.hw_port_chart.specs.Reasons.{has_no_slot, is_reason, keeps_in}
+use Rattle.hw_port_model.specs.Drafts.{allowed, sailing}
+use Rattle.hw_port_model.specs.Numbers.{horizon_of, whole}
+use Rattle.hw_port_windows.specs.declared.status.Status.{Status}
+use Rattle.hw_port_windows.specs.Closings.{closed_in}
+use Rattle.hw_port_windows.specs.Statuses.{reason_by, reason_in, status_by, status_in}
+use Rattle.hw_chart_port.specs.declared.reasons.Reason.{Reason}
+use Rattle.hw_chart_port.specs.Charts.{ChartParts}
+use Rattle.hw_chart_port.specs.Reasons.{has_no_slot, is_reason, keeps_in}
 use Rattle.hw_chart_laws.specs.Without.{KeepsFrom, ReasonsAreTold}
 
 -- where the ship doesn't sail, its status is the reason

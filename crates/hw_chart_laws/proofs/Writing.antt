@@ -1,10 +1,10 @@
 -- What a picture is written with, and that a fact that holds of each of these holds of all that is made of them.
 use Rattle.std.proofs.Common.{◌++◌, ℕ, List, [], ◌∷◌, codes}
-use Rattle.hw_svg.specs.Lettering.{line, name_line}
-use Rattle.hw_svg.specs.Shapes.{shape, titled}
-use Rattle.hw_svg.specs.Sheets.{group_end, svg_end, window_begin}
-use Rattle.hw_svg.specs.declared.area.Area.{Area}
-use Rattle.hw_svg.specs.declared.sheet.Window.{Window}
+use Rattle.hw_chart_svg.specs.Lettering.{line, name_line}
+use Rattle.hw_chart_svg.specs.Shapes.{shape, titled}
+use Rattle.hw_chart_svg.specs.Sheets.{group_end, svg_end, window_begin}
+use Rattle.hw_chart_svg.specs.declared.area.Area.{Area}
+use Rattle.hw_chart_svg.specs.declared.sheet.Window.{Window}
 use Rattle.hw_chart.specs.Hatches.{hatch}
 use Rattle.hw_chart_laws.proofs.Plain.{Plain}
 use Rattle.hw_chart_laws.proofs.Spelled.{Spelled}

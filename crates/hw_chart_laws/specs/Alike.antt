@@ -3,11 +3,11 @@ use Rattle.std.specs.Prelude.{◌≡◌, ◌↔◌, ◌<◌, ◌-◌, ◌/◌, �
 use Rattle.hw_model.specs.Limits.{IsFlat}
 use Rattle.hw_model.specs.Problem.{IsTimetable, Problem, horizon, value_at}
 use Rattle.hw_port.specs.Parts.{ShipParts}
-use Rattle.hw_port_rules.specs.Drafts.{sailing}
-use Rattle.hw_flat_chart.specs.Rows.{planned_row, planned_row_text, unplanned_row, unplanned_row_text}
-use Rattle.hw_flat_chart.specs.Values.{most_carried, unit_of}
-use Rattle.hw_port_chart.specs.Charts.{ChartParts, IsChart}
-use Rattle.hw_port_chart.specs.Rows.{ranked_row}
+use Rattle.hw_port_model.specs.Drafts.{sailing}
+use Rattle.hw_chart_flat.specs.Rows.{planned_row, planned_row_text, unplanned_row, unplanned_row_text}
+use Rattle.hw_chart_flat.specs.Values.{most_carried, unit_of}
+use Rattle.hw_chart_port.specs.Charts.{ChartParts, IsChart}
+use Rattle.hw_chart_port.specs.Rows.{ranked_row}
 
 -- rows of ships that are written alike, of whatever ports, tides and timetables, show ships that may sail in the same slots, and with the same draft in each
 abbrev pub PortRowsReadBack : Type 0

@@ -2,14 +2,14 @@
 use Rattle.std.specs.Prelude.{◌≡◌, ◌≢◌, ◌⊎◌, ◌<◌, ◌≤◌, ◌+◌, ◌-◌, ◌*◌, ℕ, List, Option, Some, None, IfSome, length}
 use Rattle.hw_model.specs.Problem.{Problem}
 use Rattle.hw_port.specs.Whole.{Parts}
-use Rattle.hw_flat_chart.specs.Fleets.{fleets}
-use Rattle.hw_flat_chart.specs.Pictures.{flat_picture_bottom, panels_y}
-use Rattle.hw_flat_chart.specs.Rows.{planned_row, row_top as flat_row_y, unplanned_row}
-use Rattle.hw_port_chart.specs.Charts.{ChartParts}
-use Rattle.hw_port_chart.specs.Heads.{places}
-use Rattle.hw_port_chart.specs.Lanes.{lane_y}
-use Rattle.hw_port_chart.specs.Rows.{rank_in, row_y}
-use Rattle.hw_port_chart.specs.Strips.{place_y}
+use Rattle.hw_chart_flat.specs.Fleets.{fleets}
+use Rattle.hw_chart_flat.specs.Pictures.{flat_picture_bottom, panels_y}
+use Rattle.hw_chart_flat.specs.Rows.{planned_row, row_top as flat_row_y, unplanned_row}
+use Rattle.hw_chart_port.specs.Charts.{ChartParts}
+use Rattle.hw_chart_port.specs.Heads.{places}
+use Rattle.hw_chart_port.specs.Lanes.{lane_y}
+use Rattle.hw_chart_port.specs.Rows.{rank_in, row_y}
+use Rattle.hw_chart_port.specs.Strips.{place_y}
 
 -- the tide at a waypoint, the row of a ship, the lane of a section, or a panel of tugs
 pub data Part : Type 0 where

@@ -5,15 +5,15 @@ use Rattle.hw_port.specs.Kept.{PortKept}
 use Rattle.hw_port.specs.Parts.{ShipParts}
 use Rattle.hw_port.specs.Whole.{Parts}
 use Rattle.hw_tide.specs.Levels.{TideParts}
-use Rattle.hw_port_rules.specs.Numbers.{is_outgoing, whole}
-use Rattle.hw_port_rules.specs.Permitted.{Occupies, PortPermits}
-use Rattle.hw_port_rules.specs.Timetables.{SailsIn}
+use Rattle.hw_port_model.specs.Numbers.{is_outgoing, whole}
+use Rattle.hw_port_model.specs.Permitted.{Occupies, PortPermits}
+use Rattle.hw_port_model.specs.Timetables.{SailsIn}
 use Rattle.hw_chart.specs.declared.course.Course.{Course}
 use Rattle.hw_chart.specs.declared.course.Course.TheVariants.{Unplanned, Stays, Sails}
-use Rattle.hw_port_chart.specs.declared.lane.Stay.{Stay}
-use Rattle.hw_port_chart.specs.Charts.{ChartParts, course}
-use Rattle.hw_port_chart.specs.Lanes.{stay_mark, stay_of, stays_from}
-use Rattle.hw_port_chart.specs.Pictures.{chart_of}
+use Rattle.hw_chart_port.specs.declared.lane.Stay.{Stay}
+use Rattle.hw_chart_port.specs.Charts.{ChartParts, course}
+use Rattle.hw_chart_port.specs.Lanes.{stay_mark, stay_of, stays_from}
+use Rattle.hw_chart_port.specs.Pictures.{chart_of}
 
 -- a ship, and how long it stays in a section
 pub record Block : Type 0 where

@@ -6,13 +6,13 @@ use Rattle.hw_port.specs.Kept.{PortKept}
 use Rattle.hw_port.specs.Parts.{ShipParts}
 use Rattle.hw_port.specs.Whole.{Parts}
 use Rattle.hw_tide.specs.Levels.{TideParts}
-use Rattle.hw_port_rules.specs.Drafts.{sailing, value}
-use Rattle.hw_port_rules.specs.Timetables.{IsPortTimetable}
+use Rattle.hw_port_model.specs.Drafts.{sailing, value}
+use Rattle.hw_port_model.specs.Timetables.{IsPortTimetable}
 use Rattle.hw_chart.specs.declared.outcome.Outcome.{Outcome}
-use Rattle.hw_flat_chart.specs.Pictures.{flat_picture}
-use Rattle.hw_port_chart.specs.Charts.{ChartParts, full_of, tall_between}
-use Rattle.hw_port_chart.specs.Drafts.{draft_level, fullness_level}
-use Rattle.hw_port_chart.specs.Pictures.{port_picture}
+use Rattle.hw_chart_flat.specs.Pictures.{flat_picture}
+use Rattle.hw_chart_port.specs.Charts.{ChartParts, full_of, tall_between}
+use Rattle.hw_chart_port.specs.Drafts.{draft_level, fullness_level}
+use Rattle.hw_chart_port.specs.Pictures.{port_picture}
 use Rattle.hw_chart_laws.specs.Trees.{IsPicture}
 
 -- the picture of a flat problem is one element of trees, with a timetable or without one, whatever was proved

@@ -3,13 +3,13 @@ use Rattle.std.specs.Prelude.{◌≡◌, ◌↔◌, ◌<◌, ◌≤◌, ◌-◌,
 use Rattle.hw_port.specs.declared.parts.AfterPair.{AfterPair}
 use Rattle.hw_port.specs.Whole.{Parts}
 use Rattle.hw_tide.specs.Levels.{TideParts}
-use Rattle.hw_port_rules.specs.Numbers.{horizon_of}
-use Rattle.hw_port_rules.specs.Permitted.{PortPermits}
-use Rattle.hw_port_rules.specs.Timetables.{slot_of}
-use Rattle.hw_port_chart.specs.declared.stays.Wait.{Wait}
-use Rattle.hw_port_chart.specs.Closings.{run_begins, run_end}
-use Rattle.hw_port_chart.specs.Pictures.{chart_of}
-use Rattle.hw_port_chart.specs.Stays.{wait_of}
+use Rattle.hw_port_model.specs.Numbers.{horizon_of}
+use Rattle.hw_port_model.specs.Permitted.{PortPermits}
+use Rattle.hw_port_model.specs.Timetables.{slot_of}
+use Rattle.hw_chart_port.specs.declared.stays.Wait.{Wait}
+use Rattle.hw_chart_port.specs.Closings.{run_begins, run_end}
+use Rattle.hw_chart_port.specs.Pictures.{chart_of}
+use Rattle.hw_chart_port.specs.Stays.{wait_of}
 
 -- a hatch that begins in a slot of a window reaches over another slot
 pub record Hatches (shut : ℕ → Bool) (first end slot : ℕ) : Type 0 where

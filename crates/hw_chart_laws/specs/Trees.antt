@@ -1,9 +1,9 @@
 -- Trees of elements as XML wants them, and pictures made of them.
 use Rattle.std.specs.Prelude.{◌≡◌, ◌++◌, ◌&&◌, ◌||◌, ℕ, Bool, true, false, not, nat_eq, nat_le, bytes_eq, List, [], ◌∷◌, codes}
 use Rattle.std.specs.List.{list_all}
-use Rattle.hw_svg.specs.Joined.{joined}
-use Rattle.hw_svg.specs.Marks.{is_word}
-use Rattle.hw_svg.specs.Trees.{Attribute, Node, Nodes, words, element, no_more, node, attributes_text, nodes_text}
+use Rattle.hw_chart_svg.specs.Joined.{joined}
+use Rattle.hw_chart_svg.specs.Marks.{is_word}
+use Rattle.hw_chart_svg.specs.Trees.{Attribute, Node, Nodes, words, element, no_more, node, attributes_text, nodes_text}
 
 -- none of the marks < > " ' &
 abbrev pub is_plain_byte : ℕ → Bool

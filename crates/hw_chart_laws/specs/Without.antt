@@ -2,11 +2,11 @@
 use Rattle.std.specs.Prelude.{◌≡◌, ◌↔◌, ◌≤◌, ℕ, true}
 use Rattle.hw_port.specs.Kept.{ShipKept}
 use Rattle.hw_port.specs.Parts.{ShipParts}
-use Rattle.hw_port_rules.specs.Numbers.{whole}
-use Rattle.hw_windows.specs.Statuses.{status_in}
-use Rattle.hw_port_chart.specs.declared.reasons.Reason.{Reason}
-use Rattle.hw_port_chart.specs.Charts.{ChartParts}
-use Rattle.hw_port_chart.specs.Reasons.{has_no_slot, is_reason, keeps_in}
+use Rattle.hw_port_model.specs.Numbers.{whole}
+use Rattle.hw_port_windows.specs.Statuses.{status_in}
+use Rattle.hw_chart_port.specs.declared.reasons.Reason.{Reason}
+use Rattle.hw_chart_port.specs.Charts.{ChartParts}
+use Rattle.hw_chart_port.specs.Reasons.{has_no_slot, is_reason, keeps_in}
 
 -- a slot for which the ship asks, against which `windows` tells this reason
 pub record KeepsFrom (chart : ChartParts) (v : ℕ) (s : ShipParts) (reason : Reason) (slot : ℕ) : Type 0 where

@@ -6,7 +6,7 @@ use Rattle.std.proofs.lemmas.List.Folds.{Any-from_list_any, list_any_at, list_an
 use Rattle.std.proofs.lemmas.List.Kept.{AllPairs-from_increasing}
 use Rattle.std.specs.List.{AllPairs, Contains, range_with_len}
 use Rattle.std.specs.List.Sorted.{IsStrictlyIncreasing}
-use Rattle.hw_verdict.proofs.Naming.{from_among}
+use Rattle.hw_cert_laws.proofs.Naming.{from_among}
 use Rattle.hw_check.specs.Marks.{is_among_numbers}
 
 -- ---- among and Contains

@@ -5,27 +5,27 @@ use Rattle.std.proofs.lemmas.List.{length-map}
 use Rattle.std.proofs.lemmas.List.Elements.{All-nil, All-cons, All-append}
 use Rattle.hw_model.specs.Problem.{Problem}
 use Rattle.hw_model.specs.Limits.{IsFlat}
-use Rattle.hw_tolls.specs.declared.toll.Toll.{Toll}
-use Rattle.hw_tolls.specs.Tolls.{IsToll}
-use Rattle.hw_tolls.proofs.Judging.{judged}
-use Rattle.hw_tariff.specs.PriceStates.{PriceState}
-use Rattle.hw_lines.specs.declared.check.Refusal.{Refusal}
-use Rattle.hw_lines.specs.declared.line.Line.{Line}
-use Rattle.hw_lines.specs.declared.line.Line.TheVariants as lines
-use Rattle.hw_lines.specs.Lines.{clause_of, live_numbers}
-use Rattle.hw_lines.specs.Tolled.{bound_of}
-use Rattle.hw_lines.specs.Valid.{LineFits, ValidAfter, Valid, verdict, verdict_by}
-use Rattle.hw_lines.specs.Kept.{NumberedClause, Kept, kept_of, kept_after}
-use Rattle.hw_lines.specs.declared.check.CheckWord.TheVariants as words
-use Rattle.hw_lines.specs.Refusals.{refused, is_past, claim_refusal, refusal, kept_refusal}
-use Rattle.hw_lines.proofs.Deleted.{valid_deletes}
-use Rattle.hw_lines.proofs.Keeping as keeping
-use Rattle.hw_lines.proofs.Priced.{are_tolls}
-use Rattle.hw_lines.proofs.Live.{valid_push}
-use Rattle.hw_verdict.specs.Laws.{IsBound}
-use Rattle.hw_verdict.proofs.Bounded.{bounds}
-use Rattle.hw_verdict.proofs.Priced.{toll_from}
-use Rattle.hw_verdict.proofs.Refused.{can_judge, valid_from}
+use Rattle.hw_price_laws.specs.declared.toll.Toll.{Toll}
+use Rattle.hw_price_laws.specs.Tolls.{IsToll}
+use Rattle.hw_price_laws.proofs.Judging.{judged}
+use Rattle.hw_price_tests.specs.PriceStates.{PriceState}
+use Rattle.hw_cert_lines.specs.declared.check.Refusal.{Refusal}
+use Rattle.hw_cert_lines.specs.declared.line.Line.{Line}
+use Rattle.hw_cert_lines.specs.declared.line.Line.TheVariants as lines
+use Rattle.hw_cert_lines.specs.Lines.{clause_of, live_numbers}
+use Rattle.hw_cert_lines.specs.Tolled.{bound_of}
+use Rattle.hw_cert_lines.specs.Valid.{LineFits, ValidAfter, Valid, verdict, verdict_by}
+use Rattle.hw_cert_lines.specs.Kept.{NumberedClause, Kept, kept_of, kept_after}
+use Rattle.hw_cert_lines.specs.declared.check.CheckWord.TheVariants as words
+use Rattle.hw_cert_lines.specs.Refusals.{refused, is_past, claim_refusal, refusal, kept_refusal}
+use Rattle.hw_cert_lines.proofs.Deleted.{valid_deletes}
+use Rattle.hw_cert_lines.proofs.Keeping as keeping
+use Rattle.hw_cert_lines.proofs.Priced.{are_tolls}
+use Rattle.hw_cert_lines.proofs.Live.{valid_push}
+use Rattle.hw_cert_laws.specs.Laws.{IsBound}
+use Rattle.hw_cert_laws.proofs.Bounded.{bounds}
+use Rattle.hw_cert_laws.proofs.Priced.{toll_from}
+use Rattle.hw_cert_laws.proofs.Refused.{can_judge, valid_from}
 use Rattle.hw_check.specs.States.{CheckState, ClauseStore, kept_in}
 use Rattle.hw_check.specs.declared.stop.CheckStop.{CheckStop}
 use Rattle.hw_check.specs.declared.stop.CheckStop.TheVariants as stops

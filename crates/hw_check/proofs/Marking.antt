@@ -6,12 +6,12 @@ use Rattle.std.proofs.lemmas.List.Elements.{All-head, All-tail, All-weaker}
 use Rattle.std.specs.List.{cons_option, range_with_len}
 use Rattle.std.specs.List.Sorted.{IsStrictlyIncreasing}
 use Rattle.hw_model.specs.declared.lit.Lit.{Lit}
-use Rattle.hw_lines.specs.declared.line.Line.{Line}
-use Rattle.hw_lines.specs.Lines.{clause_of, clause_count}
-use Rattle.hw_verdict.specs.Renewing.{hints_of, has_hint, is_hint_of, last_named, deletions, undeleting, next_number, renewed_from, IsNumbered}
-use Rattle.hw_verdict.proofs.Fitting.{last_ascends}
-use Rattle.hw_verdict.proofs.Naming.{from_among}
-use Rattle.hw_verdict.proofs.Numbered.{count_append}
+use Rattle.hw_cert_lines.specs.declared.line.Line.{Line}
+use Rattle.hw_cert_lines.specs.Lines.{clause_of, clause_count}
+use Rattle.hw_cert_laws.specs.Renewing.{hints_of, has_hint, is_hint_of, last_named, deletions, undeleting, next_number, renewed_from, IsNumbered}
+use Rattle.hw_cert_laws.proofs.Fitting.{last_ascends}
+use Rattle.hw_cert_laws.proofs.Naming.{from_among}
+use Rattle.hw_cert_laws.proofs.Numbered.{count_append}
 use Rattle.hw_check.specs.Marks.{Marks, is_among_numbers}
 use Rattle.hw_check.proofs.Ascending.{among_filter, among_range, at_most_greatest, same_ascending}
 

@@ -7,7 +7,7 @@ use Rattle.std.proofs.lemmas.List.Elements.{All-head, All-tail, filter_map-appen
 use Rattle.std.proofs.lemmas.List.Sums.{sum_by-cons, sum_by-append}
 use Rattle.std.proofs.Math.Seq.{take-append_seam, drop-append_seam}
 use Rattle.hw_model.specs.declared.lit.Lit.{Lit}
-use Rattle.hw_lines.specs.Kept.{NumberedClause, clause_under, without}
+use Rattle.hw_cert_lines.specs.Kept.{NumberedClause, clause_under, without}
 use Rattle.hw_check.specs.declared.place.Place.{Place}
 use Rattle.hw_check.specs.States.{literals}
 use Rattle.hw_check.specs.Places.{lits_at, clause_at_place, clauses_at, new_place, PlaceFits, PlacesAscend, NoneHas, StandsAt}

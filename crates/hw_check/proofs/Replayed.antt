@@ -5,8 +5,8 @@ use Rattle.hw_model.specs.declared.lit.Lit.{Lit}
 use Rattle.hw_model.specs.Rooms.{RoomModel}
 use Rattle.hw_model.specs.Replay.{replay_from, replay}
 use Rattle.hw_model.specs.Lits.{IsLitOf}
-use Rattle.hw_lines.specs.Kept.{NumberedClause, clause_under}
-use Rattle.hw_lines.specs.Refusals.{first_dead, named}
+use Rattle.hw_cert_lines.specs.Kept.{NumberedClause, clause_under}
+use Rattle.hw_cert_lines.specs.Refusals.{first_dead, named}
 use Rattle.hw_check.specs.States.{LitsFit}
 
 pub record IsReplaying (held : List NumberedClause) (hints : List ℕ) (from room : RoomModel) (i : ℕ) : Type 0 where

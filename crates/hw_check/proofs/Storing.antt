@@ -7,7 +7,7 @@ use Rattle.std.proofs.lemmas.List.Elements.{All-nil, All-cons, All-append, All-s
 use Rattle.std.proofs.lemmas.List.Kept.{AllPairs-filter}
 use Rattle.std.proofs.lemmas.List.Quantifiers.{all_pairs_push}
 use Rattle.hw_model.specs.declared.lit.Lit.{Lit}
-use Rattle.hw_lines.specs.Kept.{NumberedClause, without}
+use Rattle.hw_cert_lines.specs.Kept.{NumberedClause, without}
 use Rattle.hw_check.specs.declared.place.Place.{Place}
 use Rattle.hw_check.specs.States.{ClauseStore, FewDeadClauses, literals}
 use Rattle.hw_check.specs.Places.{lits_at, clauses_at, new_place, PlaceFits, PlacesAscend, StandsAt, IsStored, Gathers}

@@ -1,11 +1,11 @@
 -- The lines that a checker has taken, by what it keeps.
 use Rattle.std.specs.Prelude.{◌≡◌, List, [], ◌∷◌, ◌++◌, Option, Some, Result, Ok, Err, All, ⊤}
 use Rattle.hw_model.specs.Problem.{Problem}
-use Rattle.hw_lines.specs.declared.check.Refusal.{Refusal}
-use Rattle.hw_lines.specs.declared.line.Line.{Line}
-use Rattle.hw_lines.specs.Valid.{LineFits, ValidAfter, Valid}
-use Rattle.hw_lines.specs.Kept.{kept_of}
-use Rattle.hw_lines.specs.Refusals.{refusal}
+use Rattle.hw_cert_lines.specs.declared.check.Refusal.{Refusal}
+use Rattle.hw_cert_lines.specs.declared.line.Line.{Line}
+use Rattle.hw_cert_lines.specs.Valid.{LineFits, ValidAfter, Valid}
+use Rattle.hw_cert_lines.specs.Kept.{kept_of}
+use Rattle.hw_cert_lines.specs.Refusals.{refusal}
 use Rattle.hw_check.specs.declared.stop.CheckStop.{CheckStop}
 use Rattle.hw_check.specs.declared.stop.CheckStop.TheVariants as stops
 use Rattle.hw_check.specs.States.{CheckState}

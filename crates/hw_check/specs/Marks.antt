@@ -1,9 +1,9 @@
 -- Marks on the numbers that later lines name, and the deletions that are due.
 use Rattle.std.specs.Prelude.{◌≡◌, ℕ, ◌<◌, ◌==◌, Bool, false, List, ◌++◌, length, slice_index_or}
 use Rattle.std.specs.List.{list_any}
-use Rattle.hw_lines.specs.declared.line.Line.{Line}
-use Rattle.hw_lines.specs.Lines.{clause_of}
-use Rattle.hw_verdict.specs.Renewing.{deletions, is_hint_of, undeleting}
+use Rattle.hw_cert_lines.specs.declared.line.Line.{Line}
+use Rattle.hw_cert_lines.specs.Lines.{clause_of}
+use Rattle.hw_cert_laws.specs.Renewing.{deletions, is_hint_of, undeleting}
 
 -- whether this number is one of these
 abbrev pub is_among_numbers : ℕ → List ℕ → Bool

@@ -2,7 +2,7 @@
 use Rattle.std.specs.Prelude.{◌≡◌, ℕ, ◌+◌, ◌<◌, ◌≤◌, List, Option, Some, None, true, length, map, filter, filter_map, slice_range, All, AllPairs, ◌≢◌, if◌then◌else◌}
 use Rattle.std.specs.List.{HoldsAt}
 use Rattle.hw_model.specs.declared.lit.Lit.{Lit}
-use Rattle.hw_lines.specs.Kept.{NumberedClause}
+use Rattle.hw_cert_lines.specs.Kept.{NumberedClause}
 use Rattle.hw_check.specs.declared.place.Place.{Place}
 use Rattle.hw_check.specs.States.{literals}
 

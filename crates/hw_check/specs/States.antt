@@ -4,8 +4,8 @@ use Rattle.hw_model.specs.declared.lit.Lit.{Lit}
 use Rattle.hw_model.specs.Problem.{Problem}
 use Rattle.hw_model.specs.Rooms.{RoomModel, RoomFits}
 use Rattle.hw_model.specs.Lits.{IsLitOf}
-use Rattle.hw_lines.specs.Kept.{NumberedClause, Kept, none_kept}
-use Rattle.hw_tariff.specs.PriceStates.{PriceState, AreGood, tariff_in_force}
+use Rattle.hw_cert_lines.specs.Kept.{NumberedClause, Kept, none_kept}
+use Rattle.hw_price_tests.specs.PriceStates.{PriceState, AreGood, tariff_in_force}
 
 -- what is kept of the lines that were taken, and how many literals and places are kept for it, including those of dead clauses
 pub record CheckState : Type 0 where

@@ -2,7 +2,7 @@
 //! dead ones is given back.
 
 ghost use Rattle.std.specs.Prelude.{◌≡◌, ◌∷◌, ◌++◌, [], ◌+◌, ◌*◌, ◌^◌, ◌<◌, ◌≤◌, Some, length, nat_lt, option_copied, OnOk, OnErr};
-ghost use Rattle.hw_lines.specs.Kept.{clause_under, without};
+ghost use Rattle.hw_cert_lines.specs.Kept.{clause_under, without};
 ghost use Rattle.hw_check.specs.States.{FewDeadClauses, literals, with_next};
 
 use crate::stored::{Stored, find_place, gathered, lits_at};

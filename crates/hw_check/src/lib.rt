@@ -17,8 +17,10 @@ mod stop;
 mod stored;
 
 pub use checker::Checker;
-pub use hw_lines::{CheckWord, Refusal, Verdict, kept_pushed, kept_verdict};
-pub use hw_verdict::{refusal_computed, renewed_valid, sound_lines, sound_verdict, valid_numbered};
+pub use hw_cert_laws::{
+    refusal_computed, renewed_valid, sound_lines, sound_verdict, valid_numbered,
+};
+pub use hw_cert_lines::{CheckWord, Refusal, Verdict, kept_pushed, kept_verdict};
 pub use renewing::renewed;
 pub use space::Space;
 pub use stop::CheckStop;

@@ -5,16 +5,16 @@ ghost use Rattle.std.specs.Prelude.{◌≡◌, nat_lt, find, length, option_map,
 ghost use Rattle.hw_model.specs.Problem.{shape_of};
 ghost use Rattle.hw_model.specs.Lits.{IsClause};
 ghost use Rattle.hw_model.specs.Rooms.{RoomFits, whole_room};
-ghost use Rattle.hw_lines.specs.Refusals as refusals;
-ghost use Rattle.hw_tariff.specs.PriceStates.{AreGood, tariff_in_force};
+ghost use Rattle.hw_cert_lines.specs.Refusals as refusals;
+ghost use Rattle.hw_price_tests.specs.PriceStates.{AreGood, tariff_in_force};
 
 use crate::refusing::{deny_in, refused, refused_at};
+use hw_cert_lines::{CheckWord, Refusal};
 use hw_flat::{Flat, Room};
-use hw_lines::{CheckWord, Refusal};
 use hw_lits::Clause;
 use hw_model::NoMemory;
-use hw_tariff::PriceBook;
-use hw_tolls::{Due, MOST_TOLLS, Toll};
+use hw_price_laws::{Due, MOST_TOLLS, Toll};
+use hw_price_tests::PriceBook;
 use std::alloc::Global;
 
 /// Why a line declares no toll after those that are declared. An error says that memory ran out.

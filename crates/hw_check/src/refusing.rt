@@ -6,22 +6,22 @@ ghost use Rattle.hw_model.specs.Lits.{IsClause};
 ghost use Rattle.hw_model.specs.Rooms.{RoomFits};
 ghost use Rattle.hw_model.specs.Refuting.{IsSourceOf};
 ghost use Rattle.hw_model.specs.Replay.{replay};
-ghost use Rattle.hw_lines.specs.Lines as lines;
-ghost use Rattle.hw_lines.specs.Valid.{LineFits, denied_room};
-ghost use Rattle.hw_lines.specs.Refusals as refusals;
-ghost use Rattle.hw_lines.specs.Kept.{clause_under};
-ghost use Rattle.hw_tariff.specs.PriceStates.{AreGood};
+ghost use Rattle.hw_cert_lines.specs.Lines as lines;
+ghost use Rattle.hw_cert_lines.specs.Valid.{LineFits, denied_room};
+ghost use Rattle.hw_cert_lines.specs.Refusals as refusals;
+ghost use Rattle.hw_cert_lines.specs.Kept.{clause_under};
+ghost use Rattle.hw_price_tests.specs.PriceStates.{AreGood};
 ghost use Rattle.hw_check.specs.Hints.{refusal_of_lemma};
 ghost use Rattle.hw_check.specs.States.{LitsFit, kept_in};
 
 use crate::clause_list::ClauseList;
 use crate::pricing::{bound_refusal, priced_refusal, tariff_refusal, toll_refusal};
+use hw_cert_lines::{CheckWord, Line, Refusal};
 use hw_flat::{Flat, Room, Source, Timetable};
-use hw_lines::{CheckWord, Line, Refusal};
 use hw_lits::{Clause, Narrowed, deny, narrow_lits};
 use hw_model::NoMemory;
+use hw_price_tests::PriceBook;
 use hw_rules::{beats, broken, cargo, refuted, source_of};
-use hw_tariff::PriceBook;
 
 /// A word that names no number.
 pub(crate) fn refused(word: CheckWord) -> Option<Refusal>

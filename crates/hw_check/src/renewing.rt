@@ -4,13 +4,13 @@
 //! marked, so that each line knows which of its hints no later line names.
 ghost use Rattle.std.specs.Prelude.{◌≡◌, ℕ, ◌+◌, ◌^◌, ◌<◌, ◌≤◌, ◌||◌, not, List, ◌∷◌, ◌++◌, [], length, filter, reverse, is_some, All, IfOk, OnOk};
 ghost use Rattle.std.specs.List.Sorted.{IsStrictlyIncreasing};
-ghost use Rattle.hw_lines.specs.declared.line.Line.{Line};
-ghost use Rattle.hw_lines.specs.Lines as counting;
-ghost use Rattle.hw_verdict.specs.Renewing as renewal;
+ghost use Rattle.hw_cert_lines.specs.declared.line.Line.{Line};
+ghost use Rattle.hw_cert_lines.specs.Lines as counting;
+ghost use Rattle.hw_cert_laws.specs.Renewing as renewal;
 ghost use Rattle.hw_check.specs.Marks.{Marks, is_among_numbers, is_marked, due_after, renewed_line};
 
 use crate::refusing::clause_of;
-use hw_lines::{Hints, Line};
+use hw_cert_lines::{Hints, Line};
 use hw_model::NoMemory;
 use std::alloc::Global;
 

@@ -3,7 +3,7 @@
 ghost use Rattle.std.specs.Prelude.{◌≡◌};
 ghost use Rattle.hw_check.specs.declared.stop.CheckStop.TheVariants.{NoMemory};
 
-use hw_lines::Refusal;
+use hw_cert_lines::Refusal;
 use std::alloc::{AllocError, AllocFailed};
 
 /// Why a checker took no line.

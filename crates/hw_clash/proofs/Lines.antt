@@ -2,9 +2,9 @@
 use Rattle.std.proofs.Common.{◌≡◌, ℕ, zero, suc, ◌+◌, ◌≤◌, ◌<◌, List, [], ◌∷◌, ◌++◌, drop, drop-cons, get_or, length, Result, Ok, Err, refl, sym, ap, ◌∙◌, append_assoc, arith}
 use Rattle.std.proofs.lemmas.List.{append-nil}
 use Rattle.hw_lemmas.specs.Operators.{◌>>=◌}
-use Rattle.hw_derived.specs.declared.fault.LineFault.{LineFault}
-use Rattle.hw_derived.specs.declared.fault.LineFault.TheVariants as faults
-use Rattle.hw_derived.specs.Reading.{MalformedLine, TextReadFails}
+use Rattle.hw_plan_texts.specs.declared.fault.LineFault.{LineFault}
+use Rattle.hw_plan_texts.specs.declared.fault.LineFault.TheVariants as faults
+use Rattle.hw_plan_texts.specs.Reading.{MalformedLine, TextReadFails}
 use Rattle.hw_clash.specs.declared.fault.ClashWord.{ClashWord}
 use Rattle.hw_clash.specs.Wished.{Wished}
 use Rattle.hw_clash.specs.Text.{drop_at, drops_at}

@@ -2,8 +2,8 @@
 use Rattle.std.proofs.Common.{◌≡◌, ℕ, zero, suc, ◌+◌, ◌-◌, ◌<◌, ◌≤◌, Bool, true, false, cond, not, ◌&&◌, ◌||◌, nat_lt, List, [], ◌∷◌, Option, Some, None, slice_get, unwrap_or, is_none, is_some, IsSome, IsTrue, All, length, get_or, refl, sym, ap, subst, ◌∙◌, arith, inl, inr}
 use Rattle.std.proofs.lemmas.Bool.{cond-true, cond-false, lt-ltb, le-ltb, cases_lt, cases_eq}
 use Rattle.std.proofs.lemmas.List.Elements.{All-get_or}
-use Rattle.hw_derived.proofs.Alike.{rules_alike}
-use Rattle.hw_derived.proofs.Grids.{grid_length, grid_all, grid_value}
+use Rattle.hw_plan_texts.proofs.Alike.{rules_alike}
+use Rattle.hw_plan_texts.proofs.Grids.{grid_length, grid_all, grid_value}
 use Rattle.std.proofs.lemmas.Option.{get_or_from_slice_get}
 use Rattle.hw_model.specs.declared.rule.Rule.{Rule}
 use Rattle.hw_model.specs.Problem.{Problem, IsTimetable, value_at, horizon}

@@ -9,8 +9,8 @@ use Rattle.std.proofs.lemmas.Option.{same_Some}
 use Rattle.std.specs.List.{range_with_len}
 use Rattle.std.specs.List.Sorted.{IsStrictlyIncreasing}
 use Rattle.hw_lemmas.proofs.Lists.{get_left, get_right, get_within}
-use Rattle.hw_lines.specs.declared.check.Verdict.TheVariants.{Optimal}
-use Rattle.hw_lines.specs.declared.line.Line.{Line}
+use Rattle.hw_cert_lines.specs.declared.check.Verdict.TheVariants.{Optimal}
+use Rattle.hw_cert_lines.specs.declared.line.Line.{Line}
 use Rattle.hw_model.specs.Limits.{IsFlat}
 use Rattle.hw_model.specs.Timetables.{Permits, NonePermitted}
 use Rattle.hw_clash.specs.Asking.{FitsAt, NoneAt, SpentAt}

@@ -6,19 +6,19 @@ use Rattle.std.proofs.lemmas.List.Elements.{All-nil, All-cons, All-head, All-wea
 use Rattle.std.specs.List.Sorted.{IsStrictlyIncreasing}
 use Rattle.std.specs.Str.Parse.{digits_value}
 use Rattle.hw_lemmas.specs.Operators.{◌>>=◌}
-use Rattle.hw_derived.specs.Slots.{put_value_first, slot_form, slots_form}
+use Rattle.hw_plan_texts.specs.Slots.{put_value_first, slot_form, slots_form}
 use Rattle.hw_text.specs.Numbers.{is_number, number_up_to, number_from_to}
 use Rattle.hw_text.specs.Parts.{words_of}
 use Rattle.hw_model.specs.Problem.{IsTimetable}
 use Rattle.hw_model.specs.Timetables.{Permits, first_broken}
-use Rattle.hw_laws.proofs.Broken.{permits_from}
+use Rattle.hw_model_laws.proofs.Broken.{permits_from}
 use Rattle.hw_clash.specs.declared.fault.ClashWord.{ClashWord}
 use Rattle.hw_clash.specs.declared.fault.ClashWord.TheVariants as words
 use Rattle.hw_clash.specs.Wished.{Wished, wished_count}
 use Rattle.hw_clash.specs.Parts.{part}
 use Rattle.hw_clash.specs.Clashing.{without_number, AreDrops}
-use Rattle.hw_derived.proofs.Reading.{bind_ok, formed_ok, slot_below}
-use Rattle.hw_derived.specs.Reading.{MalformedLine, malformed_line, formed_line, formed_line_at}
+use Rattle.hw_plan_texts.proofs.Reading.{bind_ok, formed_ok, slot_below}
+use Rattle.hw_plan_texts.specs.Reading.{MalformedLine, malformed_line, formed_line, formed_line_at}
 use Rattle.hw_clash.specs.Text.{ids_from, some_ids, keep_words, keep_form, drop_words, drop_form, keep_at, drop_at, drops_at}
 
 -- ---- reading

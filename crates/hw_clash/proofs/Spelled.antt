@@ -4,8 +4,8 @@ use Rattle.std.proofs.Math.Path.{ap₂}
 use Rattle.std.proofs.lemmas.List.Elements.{All-head, All-tail, All-weaker}
 use Rattle.std.proofs.lemmas.Option.{same_Some, option_and_then_some}
 use Rattle.hw_lemmas.specs.Operators.{◌>>=◌}
-use Rattle.hw_laws.proofs.Horizon.{few_slots}
-use Rattle.hw_derived.specs.Slots.{put_value_first, slot_form, slots_form}
+use Rattle.hw_model_laws.proofs.Horizon.{few_slots}
+use Rattle.hw_plan_texts.specs.Slots.{put_value_first, slot_form, slots_form}
 use Rattle.hw_text.specs.Numbers.{number_from_to}
 use Rattle.hw_text.specs.Parts.{parts_of, words_of, first_part, at_end}
 use Rattle.hw_text.proofs.Joins.{is_ended_lines}
@@ -16,8 +16,8 @@ use Rattle.hw_clash.specs.declared.fault.ClashWord.{ClashWord}
 use Rattle.hw_clash.specs.declared.fault.ClashWord.TheVariants as words
 use Rattle.hw_clash.specs.Clashes.{Clash}
 use Rattle.hw_clash.specs.Wished.{Wished, IsWished, wished_count}
-use Rattle.hw_derived.proofs.Reading.{bind_ok, formed_ok}
-use Rattle.hw_derived.specs.Reading.{MalformedLine, malformed_line, formed_line, formed_line_at, only_at, ended_at}
+use Rattle.hw_plan_texts.proofs.Reading.{bind_ok, formed_ok}
+use Rattle.hw_plan_texts.specs.Reading.{MalformedLine, malformed_line, formed_line, formed_line_at, only_at, ended_at}
 use Rattle.hw_clash.specs.Text.{ids_from, some_ids, keep_words, keep_form, drop_words, drop_form, keep_at, drop_at, drops_at, clash_by, clash_of}
 use Rattle.hw_clash.specs.Written.{keep_line, drop_line, drop_lines, clash_lines}
 use Rattle.hw_clash.specs.Laws.{OneClashText}

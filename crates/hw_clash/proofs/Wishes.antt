@@ -1,7 +1,7 @@
 -- Timetables that meet the wishes of a plan.
 use Rattle.std.proofs.Common.{◌≡◌, ℕ, ◌<◌, List, length, Option, Some, None, IfSome, IsTrue, slice_get, get_or, refl, subst, arith}
 use Rattle.hw_model.specs.Problem.{Problem}
-use Rattle.hw_derived.specs.Fleets.{lessened}
+use Rattle.hw_plan_texts.specs.Fleets.{lessened}
 use Rattle.hw_repair.specs.Wishes.{PlanParts, Grants, PlanFits, PermitsPlan}
 use Rattle.hw_repair.specs.declared.plan.Wish.{Wish}
 use Rattle.hw_repair.proofs.Values.{grants_of, of_grants}

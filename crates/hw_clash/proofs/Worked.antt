@@ -3,7 +3,7 @@ use Rattle.std.proofs.Common.{◌≡◌, ℕ, zero, suc, ◌<◌, List, [], ◌�
 use Rattle.std.proofs.lemmas.List.Elements.{All-nil, All-cons, All-head, All-tail}
 use Rattle.hw_model.specs.Problem.{Problem, IsTimetable}
 use Rattle.hw_model.specs.Timetables.{Permits, NonePermitted, first_broken}
-use Rattle.hw_laws.proofs.Broken.{permits_from, from_permits}
+use Rattle.hw_model_laws.proofs.Broken.{permits_from, from_permits}
 use Rattle.hw_rules.specs.Outcomes.{SomePermitted}
 use Rattle.hw_clash.specs.Parts.{part}
 use Rattle.hw_clash.specs.Clashing.{IsLeft}

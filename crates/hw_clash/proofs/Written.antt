@@ -6,17 +6,17 @@ use Rattle.std.proofs.lemmas.List.Folds.{list_all-append}
 use Rattle.std.proofs.lemmas.List.Kept.{AllPairs-from_increasing}
 use Rattle.std.specs.List.{list_all}
 use Rattle.std.specs.List.Sorted.{IsStrictlyIncreasing}
-use Rattle.hw_derived.specs.Slots.{slots_form}
+use Rattle.hw_plan_texts.specs.Slots.{slots_form}
 use Rattle.hw_text.specs.Numbers.{is_digit}
 use Rattle.hw_text.specs.Parts.{parts_of, words_of, lacks}
 use Rattle.hw_text.proofs.Joins.{cut_joined, cut_ended}
 use Rattle.hw_text.proofs.Signs.{from_to_reads}
 use Rattle.hw_text.proofs.Spelled.{reads_back}
 use Rattle.hw_flat.proofs.TextLacks.{number_lacks, joined_lacks}
-use Rattle.hw_laws.proofs.Broken.{from_permits}
+use Rattle.hw_model_laws.proofs.Broken.{from_permits}
 use Rattle.hw_model.specs.Problem.{IsTimetable}
 use Rattle.hw_model.specs.Timetables.{Permits}
-use Rattle.hw_laws.proofs.Horizon.{few_slots}
+use Rattle.hw_model_laws.proofs.Horizon.{few_slots}
 use Rattle.hw_clash.specs.Clashes.{Clash}
 use Rattle.hw_clash.specs.Wished.{Wished, IsWished, wished_count}
 use Rattle.hw_clash.specs.Parts.{part}

@@ -3,11 +3,11 @@ use Rattle.std.specs.Prelude.{◌≡◌, ℕ, ◌≤◌, false, List, Some, leng
 use Rattle.hw_model.specs.Problem.{Problem}
 use Rattle.hw_model.specs.Rooms.{room_count}
 use Rattle.hw_model.specs.Timetables.{Permits, NonePermitted, cargo}
-use Rattle.hw_lines.specs.declared.check.Verdict.TheVariants.{Optimal, Infeasible}
-use Rattle.hw_lines.specs.declared.line.Line.{Line}
-use Rattle.hw_lines.specs.Lemmas.{lemmas_of}
-use Rattle.hw_lines.specs.Lines.{last_table, is_closed}
-use Rattle.hw_lines.specs.Valid.{verdict}
+use Rattle.hw_cert_lines.specs.declared.check.Verdict.TheVariants.{Optimal, Infeasible}
+use Rattle.hw_cert_lines.specs.declared.line.Line.{Line}
+use Rattle.hw_cert_lines.specs.Lemmas.{lemmas_of}
+use Rattle.hw_cert_lines.specs.Lines.{last_table, is_closed}
+use Rattle.hw_cert_lines.specs.Valid.{verdict}
 use Rattle.hw_clash.specs.declared.asking.Asked.{Asked}
 use Rattle.hw_clash.specs.declared.asking.Asked.TheVariants.{Fits, NoneFits, Spent, NoMemory}
 use Rattle.hw_clash.specs.Outcomes.{IsProof}

@@ -4,7 +4,7 @@ use Rattle.hw_model.specs.Limits.{IsFlat}
 use Rattle.hw_model.specs.Problem.{Problem, value_at}
 use Rattle.hw_model.specs.Timetables.{Permits, cargo}
 use Rattle.hw_flat.specs.TextWritten.{IsWritable}
-use Rattle.hw_derived.specs.Fleets.{lessened}
+use Rattle.hw_plan_texts.specs.Fleets.{lessened}
 use Rattle.hw_repair.specs.Wishes.{PlanParts, PlanFits, PermitsPlan}
 use Rattle.hw_clash.specs.Wished.{Wished, IsWished, PermitsWished, NoneWished, with_wishes, unplanned}
 use Rattle.hw_clash.specs.Parts.{part_value, part, rule_numbers, Meets}

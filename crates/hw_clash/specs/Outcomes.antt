@@ -2,13 +2,13 @@
 use Rattle.std.specs.Prelude.{◌≡◌, ℕ, zero, suc, ◌≤◌, true, false, List, Some, All, length, ⊤}
 use Rattle.hw_model.specs.Problem.{Problem}
 use Rattle.hw_model.specs.Rooms.{room_count}
-use Rattle.hw_lines.specs.declared.check.Verdict.TheVariants.{Optimal, Infeasible}
-use Rattle.hw_lines.specs.declared.line.Line.{Line}
-use Rattle.hw_lines.specs.Lemmas.{lemmas_of, IsNew, IsLean}
-use Rattle.hw_lines.specs.Tolled.{is_plain}
-use Rattle.hw_lines.specs.Lines.{last_table, is_closed}
-use Rattle.hw_lines.specs.Valid.{LineFits, Valid, verdict}
-use Rattle.hw_progress.specs.Living.{FewLiveThroughout}
+use Rattle.hw_cert_lines.specs.declared.check.Verdict.TheVariants.{Optimal, Infeasible}
+use Rattle.hw_cert_lines.specs.declared.line.Line.{Line}
+use Rattle.hw_cert_lines.specs.Lemmas.{lemmas_of, IsNew, IsLean}
+use Rattle.hw_cert_lines.specs.Tolled.{is_plain}
+use Rattle.hw_cert_lines.specs.Lines.{last_table, is_closed}
+use Rattle.hw_cert_lines.specs.Valid.{LineFits, Valid, verdict}
+use Rattle.hw_search_laws.specs.Living.{FewLiveThroughout}
 use Rattle.hw_clash.specs.declared.clashing.Clashed.{Clashed}
 use Rattle.hw_clash.specs.declared.clashing.Clashed.TheVariants.{Clash, Met, Spent, NoMemory}
 use Rattle.hw_clash.specs.Parts.{part}

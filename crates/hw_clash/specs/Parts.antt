@@ -4,7 +4,7 @@ use Rattle.std.specs.List.{list_any, range_with_len}
 use Rattle.hw_model.specs.declared.rule.Rule.{Rule}
 use Rattle.hw_model.specs.Problem.{Problem, IsTimetable, value_at}
 use Rattle.hw_model.specs.Timetables.{restriction_count}
-use Rattle.hw_derived.specs.Grids.{grid_of_values}
+use Rattle.hw_plan_texts.specs.Grids.{grid_of_values}
 use Rattle.hw_clash.specs.Wished.{Wished, is_granted, wished_holds}
 
 -- the number is one of the list

@@ -2,8 +2,8 @@
 use Rattle.std.specs.Prelude.{ℕ, ◌+◌, ◌-◌, List, [], ◌∷◌, Option, Some, None, Result, Ok, codes, bytes_eq, is_some, option_and_then, if◌then◌else◌, length}
 use Rattle.hw_lemmas.specs.Operators.{◌>>=◌}
 use Rattle.hw_model.specs.Timetables.{first_broken}
-use Rattle.hw_derived.specs.Reading.{MalformedLine, malformed_line, formed_line, formed_line_at, only_at, ended_at}
-use Rattle.hw_derived.specs.Slots.{slots_form, put_value_first}
+use Rattle.hw_plan_texts.specs.Reading.{MalformedLine, malformed_line, formed_line, formed_line_at, only_at, ended_at}
+use Rattle.hw_plan_texts.specs.Slots.{slots_form, put_value_first}
 use Rattle.hw_text.specs.Numbers.{number_from_to}
 use Rattle.hw_text.specs.Parts.{parts_of, words_of}
 use Rattle.hw_clash.specs.declared.fault.ClashWord.{ClashWord}

@@ -3,7 +3,7 @@
 ghost use Rattle.std.specs.Prelude.{◌≡◌, ◌<◌, ◌≤◌, [], All};
 ghost use Rattle.std.specs.List.Sorted.{IsStrictlyIncreasing};
 ghost use Rattle.hw_cert.specs.Logs.{memory_log};
-ghost use Rattle.hw_progress.specs.Solving.{SolveMeets};
+ghost use Rattle.hw_search_laws.specs.Solving.{SolveMeets};
 ghost use Rattle.hw_clash.specs.Asking.{ClashAskMeets};
 ghost use Rattle.hw_clash.specs.Parts.{part};
 ghost use Rattle.hw_clash.specs.Wished.{wished_count};
@@ -12,8 +12,8 @@ use crate::parting::part;
 use crate::wished::WishedFlat;
 use hw_cert::MemoryLog;
 use hw_flat::{Flat, Timetable};
-use hw_progress::MOST_BUDGET;
 use hw_search::{Solved, solve};
+use hw_search_laws::MOST_BUDGET;
 use std::alloc::Global;
 
 /// The outcome of solving a part, with its certificate.

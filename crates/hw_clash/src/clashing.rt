@@ -12,7 +12,7 @@ use crate::wished::WishedFlat;
 use hw_cert::MemoryLog;
 use hw_flat::Timetable;
 use hw_model::NoMemory;
-use hw_progress::MOST_BUDGET;
+use hw_search_laws::MOST_BUDGET;
 use std::alloc::Global;
 
 /// The outcome of the search for a clash, with a certificate.

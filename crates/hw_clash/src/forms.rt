@@ -5,8 +5,8 @@ ghost use Rattle.hw_model.specs.Problem.{IsTimetable};
 ghost use Rattle.hw_clash.specs.Text.{ids_from, some_ids, keep_form, drop_form};
 
 use crate::wished::WishedFlat;
-use hw_derived::slots_of;
 use hw_model::Slot;
+use hw_plan_texts::slots_of;
 use hw_text::{Words, is_text, read_small};
 use std::alloc::{AllocError, Global};
 

@@ -2,14 +2,14 @@
 
 ghost use Rattle.std.specs.Prelude.{◌≡◌, ◌<◌, ◌≤◌, ◌++◌, ◌&&◌, ◌||◌, IfOk, OnOk, All, length, is_none, if◌then◌else◌, Some, None};
 ghost use Rattle.std.specs.List.Sorted.{IsStrictlyIncreasing};
-ghost use Rattle.hw_derived.specs.Grids.{row_of, grid_of_values};
+ghost use Rattle.hw_plan_texts.specs.Grids.{row_of, grid_of_values};
 ghost use Rattle.hw_clash.specs.Parts.{has, part_value, rules_in, part};
 ghost use Rattle.hw_clash.specs.Wished.{wished_count};
 
 use crate::wished::{WishedFlat, is_refused};
-use hw_derived::copy_rule;
 use hw_flat::Flat;
 use hw_model::{MOST_RULES, MOST_SHIPS, NoMemory, Rule, ShipId};
+use hw_plan_texts::copy_rule;
 use std::alloc::{AllocError, Global};
 
 /// Whether a restriction is kept, by a binary search.

@@ -4,7 +4,7 @@ ghost use Rattle.std.specs.Prelude.{◌≡◌, ◌<◌, ◌≤◌, ◌+◌, IfOk
 ghost use Rattle.std.specs.List.Sorted.{IsStrictlyIncreasing};
 ghost use Rattle.hw_text.specs.Parts.{parts_of};
 ghost use Rattle.hw_clash.specs.Read.{SaysClash};
-ghost use Rattle.hw_derived.specs.Reading.{TextReadGives};
+ghost use Rattle.hw_plan_texts.specs.Reading.{TextReadGives};
 ghost use Rattle.hw_clash.specs.Wished.{wished_count};
 ghost use Rattle.hw_clash.specs.Text.{keep_at, drop_at, drops_at, clash_of, clash_text};
 
@@ -13,8 +13,8 @@ use crate::forms::{drop_of, keep_of};
 use crate::text::ClashText;
 use crate::trying::is_met;
 use crate::wished::WishedFlat;
-use hw_derived::{LineFault, line_of, only};
 use hw_flat::Timetable;
+use hw_plan_texts::{LineFault, line_of, only};
 use hw_text::is_end;
 use std::alloc::Global;
 

@@ -4,7 +4,7 @@ use Rattle.hw_model.specs.Problem.{Problem}
 use Rattle.hw_desk.specs.State.{DeskState}
 use Rattle.hw_desk.specs.declared.desk.Feed.{Feed}
 use Rattle.hw_desk.specs.declared.desk.Feed.TheVariants.{Certificate}
-use Rattle.hw_lines.specs.declared.line.Line.{Line}
+use Rattle.hw_cert_lines.specs.declared.line.Line.{Line}
 use Rattle.hw_cert.specs.declared.version.Version.{Version}
 use Rattle.hw_report.specs.Reports.{Naming}
 use Rattle.hw_command.specs.Certificates.{report_of, report_of_check}

@@ -6,8 +6,8 @@ use Rattle.hw_model.specs.Problem.{Problem, shape_of}
 use Rattle.hw_text.specs.Parts.{parts_of}
 use Rattle.hw_desk.specs.State.{DeskState}
 use Rattle.hw_cert.proofs.Streams.{steps}
-use Rattle.hw_lines.specs.declared.check.Refusal.{Refusal}
-use Rattle.hw_lines.specs.declared.line.Line.{Line}
+use Rattle.hw_cert_lines.specs.declared.check.Refusal.{Refusal}
+use Rattle.hw_cert_lines.specs.declared.line.Line.{Line}
 use Rattle.hw_cert.specs.declared.stop.FormWord.{FormWord}
 use Rattle.hw_cert.specs.declared.stop.LineStop.{LineStop}
 use Rattle.hw_cert.specs.declared.stop.LineStop.TheVariants as lines
@@ -18,7 +18,7 @@ use Rattle.hw_cert.specs.declared.version.Version.{Version}
 use Rattle.hw_cert.specs.Laws.{following}
 use Rattle.hw_cert.specs.Nexts.{rest_of, next_line, ReadPast, TakesNextLine}
 use Rattle.hw_cert.specs.Reader.{ReaderModel}
-use Rattle.hw_lines.specs.Refusals.{refusal}
+use Rattle.hw_cert_lines.specs.Refusals.{refusal}
 use Rattle.hw_cert.specs.Stream.{NextLine, comes, bad, too_long, next_of, CertLines, stream_of}
 use Rattle.hw_cert.proofs.Answered.{told_map, some_map}
 use Rattle.hw_report.specs.declared.report.RefusedWord.TheVariants.{Form, Check}

@@ -8,8 +8,8 @@ use Rattle.hw_desk.specs.State.{DeskState}
 use Rattle.hw_desk.specs.Calls.{Moves}
 use Rattle.hw_desk.specs.declared.desk.Feed.TheVariants.{Certificate}
 use Rattle.hw_desk.proofs.Chain.{only_feed_on}
-use Rattle.hw_lines.specs.declared.line.Line.{Line}
-use Rattle.hw_lines.specs.Valid.{LineFits, Valid}
+use Rattle.hw_cert_lines.specs.declared.line.Line.{Line}
+use Rattle.hw_cert_lines.specs.Valid.{LineFits, Valid}
 use Rattle.hw_cert.specs.Nexts.{rest_of, ReadPast}
 use Rattle.hw_cert.specs.Reader.{ReaderModel}
 use Rattle.hw_cert.specs.declared.version.Version.{Version}

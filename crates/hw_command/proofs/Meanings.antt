@@ -2,12 +2,12 @@
 use Rattle.std.proofs.Common.{◌≡◌, List, All, sym}
 use Rattle.hw_model.specs.Limits.{IsFlat}
 use Rattle.hw_model.specs.Problem.{Problem}
-use Rattle.hw_lines.specs.declared.check.Verdict.{Verdict}
-use Rattle.hw_lines.specs.declared.check.Verdict.TheVariants as verdicts
-use Rattle.hw_lines.specs.declared.line.Line.{Line}
-use Rattle.hw_lines.specs.Lines.{last_table}
-use Rattle.hw_lines.specs.Valid.{LineFits, Valid, verdict}
-use Rattle.hw_verdict.proofs.Proved.{optimal, infeasible}
+use Rattle.hw_cert_lines.specs.declared.check.Verdict.{Verdict}
+use Rattle.hw_cert_lines.specs.declared.check.Verdict.TheVariants as verdicts
+use Rattle.hw_cert_lines.specs.declared.line.Line.{Line}
+use Rattle.hw_cert_lines.specs.Lines.{last_table}
+use Rattle.hw_cert_lines.specs.Valid.{LineFits, Valid, verdict}
+use Rattle.hw_cert_laws.proofs.Proved.{optimal, infeasible}
 use Rattle.hw_command.specs.Verdicts.{Means}
 use Rattle.hw_command.proofs.Told.{some_gives}
 

@@ -14,8 +14,8 @@ use Rattle.hw_read.specs.Instance.{PortReads as ReadsPort}
 use Rattle.hw_tide.specs.Levels.{IsTide, TideParts}
 use Rattle.hw_tide.specs.Whole.{TideReads as ReadsHeights, tide_by_header, waypoint_names}
 use Rattle.hw_tide.specs.declared.fault.TideFault.{TideFault}
-use Rattle.hw_port_rules.specs.Alike.{IsSameProblem}
-use Rattle.hw_port_rules.specs.Flattened.{flattened}
+use Rattle.hw_port_model.specs.Alike.{IsSameProblem}
+use Rattle.hw_port_model.specs.Flattened.{flattened}
 use Rattle.hw_report.specs.Reports.{Report, bad_json, bad_field, bad_tides, too_long, no_memory}
 use Rattle.hw_command.specs.Inputs.{ReadsInput, StopsFor}
 use Rattle.hw_command.specs.PortInputs.{ReadsInstance, ReadsTide, NoPort, ReadsPortProblem, StopsAtPort, report_of_instance, report_of_tide}

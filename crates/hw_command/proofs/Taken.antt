@@ -7,8 +7,8 @@ use Rattle.hw_model.specs.Problem.{Problem, shape_of}
 use Rattle.hw_desk.specs.State.{DeskState}
 use Rattle.hw_desk.specs.Calls.{Moves}
 use Rattle.hw_desk.specs.declared.desk.Feed.TheVariants.{Certificate}
-use Rattle.hw_lines.specs.declared.line.Line.{Line}
-use Rattle.hw_lines.specs.Tolled.{bound_of}
+use Rattle.hw_cert_lines.specs.declared.line.Line.{Line}
+use Rattle.hw_cert_lines.specs.Tolled.{bound_of}
 use Rattle.hw_cert.specs.declared.version.Version.{Version}
 use Rattle.hw_cert.specs.Laws.{has_form}
 use Rattle.hw_cert.specs.Nexts.{rest_of}

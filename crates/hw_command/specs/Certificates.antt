@@ -5,10 +5,10 @@ use Rattle.hw_desk.specs.declared.desk.Feed.TheVariants.{Certificate}
 use Rattle.hw_cert.specs.declared.version.Version.{Version}
 use Rattle.hw_cert.specs.declared.version.Version.TheVariants.{Two}
 use Rattle.hw_cert.specs.Stream.{CertEnd, complete, broken, overlong, CertLines, cert_stream_to}
-use Rattle.hw_lines.specs.declared.check.Refusal.{Refusal}
-use Rattle.hw_lines.specs.declared.line.Line.{Line}
-use Rattle.hw_lines.specs.Refusals.{refusal}
-use Rattle.hw_lines.specs.Valid.{verdict}
+use Rattle.hw_cert_lines.specs.declared.check.Refusal.{Refusal}
+use Rattle.hw_cert_lines.specs.declared.line.Line.{Line}
+use Rattle.hw_cert_lines.specs.Refusals.{refusal}
+use Rattle.hw_cert_lines.specs.Valid.{verdict}
 use Rattle.hw_report.specs.Reports.{Report, Naming, checked, refused, read_fault, too_long, no_memory}
 use Rattle.hw_report.specs.declared.report.RefusedWord.TheVariants.{Form, Check}
 use Rattle.hw_command.specs.declared.outcome.CertOutcome.{CertOutcome}

@@ -13,8 +13,8 @@ use Rattle.hw_read.specs.declared.fault.ReadFault.TheVariants as read
 use Rattle.hw_tide.specs.Levels.{IsTide, TideParts}
 use Rattle.hw_tide.specs.declared.fault.TideFault.{TideFault}
 use Rattle.hw_tide.specs.declared.fault.TideFault.TheVariants as tide
-use Rattle.hw_port_rules.specs.Alike.{IsSameProblem}
-use Rattle.hw_port_rules.specs.Flattened.{flattened}
+use Rattle.hw_port_model.specs.Alike.{IsSameProblem}
+use Rattle.hw_port_model.specs.Flattened.{flattened}
 use Rattle.hw_report.specs.Reports.{Report, bad_json, bad_field, bad_tides, too_long}
 use Rattle.hw_command.specs.Inputs.{Enters, StopsFor, report_of_stop}
 use Rattle.hw_command.specs.Scope.{Entered, named_feed}

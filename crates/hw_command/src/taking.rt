@@ -1,7 +1,7 @@
 //! What is kept of a certificate's lines while it is read.
 
 ghost use Rattle.std.specs.Prelude.{◌∷◌, ◌++◌, [], List, OnOk};
-ghost use Rattle.hw_lines.specs.declared.line.Line.{Line};
+ghost use Rattle.hw_cert_lines.specs.declared.line.Line.{Line};
 ghost use Rattle.hw_command.specs.Readings.{KeepsLines, KeepsNone, KeepsTable};
 
 use hw_cert::Line;

@@ -6,8 +6,8 @@ use Rattle.hw_model.specs.Problem.{Problem}
 use Rattle.hw_port.specs.Kept.{PortKept}
 use Rattle.hw_port.specs.Whole.{Parts}
 use Rattle.hw_tide.specs.Levels.{TideParts}
-use Rattle.hw_port_rules.specs.Flattened.{flattened}
-use Rattle.hw_port_rules.specs.Alike.{IsSameProblem}
+use Rattle.hw_port_model.specs.Flattened.{flattened}
+use Rattle.hw_port_model.specs.Alike.{IsSameProblem}
 use Rattle.hw_flat.specs.TextWritten.{IsWritable}
 use Rattle.hw_port_laws.proofs.Limits.{flattened_fits_law, staying_is_nothing_law}
 use Rattle.hw_port_laws.proofs.Permits.{same_problem_law}

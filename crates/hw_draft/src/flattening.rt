@@ -3,9 +3,9 @@
 ghost use Rattle.std.specs.Prelude.{◌≡◌, ◌+◌, length, IfOk, if◌then◌else◌};
 ghost use Rattle.hw_flat.specs.TextWritten.{IsWritable};
 ghost use Rattle.hw_port.specs.Kept.{PortKept};
-ghost use Rattle.hw_port_rules.specs.Numbers.{horizon_of, some_may_stay as some_stay};
-ghost use Rattle.hw_port_rules.specs.Flattened.{flattened};
-ghost use Rattle.hw_port_rules.specs.Alike.{IsSameProblem};
+ghost use Rattle.hw_port_model.specs.Numbers.{horizon_of, some_may_stay as some_stay};
+ghost use Rattle.hw_port_model.specs.Flattened.{flattened};
+ghost use Rattle.hw_port_model.specs.Alike.{IsSameProblem};
 
 use crate::drafts::natural;
 use crate::rules::all_rules;

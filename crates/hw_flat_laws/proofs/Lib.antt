@@ -8,3 +8,10 @@ pub mod GoodBodies
 pub mod OneWord
 pub mod Converse
 pub mod Rows
+pub mod Numbers
+pub mod Words
+pub mod TextRows
+pub mod Clauses
+pub mod Rooms
+pub mod Setting
+pub mod Rules

@@ -2,3 +2,10 @@ pub mod FirstLines
 pub mod Wanted
 pub mod Laws
 pub mod Rows
+pub mod Numbers
+pub mod Words
+pub mod Texts
+pub mod Clauses
+pub mod Rooms
+pub mod Setting
+pub mod Rules

@@ -3,9 +3,9 @@ use Rattle.std.proofs.Common.{◌≡◌, ℕ, ◌+◌, ◌-◌, ◌<◌, ◌≤�
 use Rattle.std.proofs.lemmas.Bool.{cases_lt}
 use Rattle.hw_model.specs.Problem.{Problem}
 use Rattle.hw_model.specs.Refuting.{greatest_value}
-use Rattle.hw_laws.proofs.Alikes.{values_alike}
-use Rattle.hw_laws.proofs.Sound.{value_le}
-use Rattle.hw_laws.proofs.Within.{range_le}
+use Rattle.hw_model_laws.proofs.Alikes.{values_alike}
+use Rattle.hw_model_laws.proofs.Sound.{value_le}
+use Rattle.hw_model_laws.proofs.Within.{range_le}
 use Rattle.hw_goal.specs.declared.tops.Peak.{Peak}
 use Rattle.hw_goal.specs.declared.tops.Top.{Top}
 use Rattle.hw_goal.specs.Kept.{worth, IsPeak, IsTop}

@@ -5,7 +5,7 @@ use Rattle.hw_model.specs.Problem.{Problem}
 use Rattle.hw_model.specs.Rooms.{RoomModel, RoomFits, low_of, high_of}
 use Rattle.hw_model.specs.Narrowing.{with_range}
 use Rattle.hw_model.specs.Refuting.{Refutes, greatest_value, greatest_sum}
-use Rattle.hw_laws.proofs.Sums.{goal_changed, greatest_of_one}
+use Rattle.hw_model_laws.proofs.Sums.{goal_changed, greatest_of_one}
 use Rattle.hw_prop.specs.declared.reduction.Reduction.{Reduction}
 use Rattle.hw_prop.specs.declared.reduction.Reduction.TheVariants.{Here, Lowest, Highest, First, NotFirst}
 use Rattle.hw_prop.specs.Reductions.{IsQuiet, IsCut, reduced}

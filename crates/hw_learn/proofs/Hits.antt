@@ -8,28 +8,28 @@ use Rattle.hw_model.specs.declared.lit.LitTruth.TheVariants.{False}
 use Rattle.hw_model.specs.declared.lit.Lit.TheVariants.{AtOrAfter, Before, First, NotFirst}
 use Rattle.hw_model.specs.Lits.{negation, lit_fits}
 use Rattle.hw_model.specs.Narrowing.{truth}
-use Rattle.hw_story.specs.Replays.{Facts}
-use Rattle.hw_story.specs.Stories.{Story, room_at}
-use Rattle.hw_story.specs.Trails.{TrailModel, trail_shape, room_before, IsTrail}
-use Rattle.hw_story.specs.Learning.{event_of}
-use Rattle.hw_story.specs.Laws.{IsEventOf}
-use Rattle.hw_story.specs.Bridge.{event_at, story_of}
-use Rattle.hw_story.specs.Walks.{Hit, Miss}
-use Rattle.hw_story.specs.Passes.{MostOf}
-use Rattle.hw_story.proofs.Sides.{neg_neg}
-use Rattle.hw_story.proofs.Stories.{room_falls}
-use Rattle.hw_story.proofs.Trails.{trail_story, told_at}
+use Rattle.hw_trail_laws.specs.Replays.{Facts}
+use Rattle.hw_trail_laws.specs.Stories.{Story, room_at}
+use Rattle.hw_trail_laws.specs.Trails.{TrailModel, trail_shape, room_before, IsTrail}
+use Rattle.hw_trail_laws.specs.Learning.{event_of}
+use Rattle.hw_trail_laws.specs.Laws.{IsEventOf}
+use Rattle.hw_trail_laws.specs.Bridge.{event_at, story_of}
+use Rattle.hw_trail_laws.specs.Walks.{Hit, Miss}
+use Rattle.hw_trail_laws.specs.Passes.{MostOf}
+use Rattle.hw_trail_laws.proofs.Sides.{neg_neg}
+use Rattle.hw_trail_laws.proofs.Stories.{room_falls}
+use Rattle.hw_trail_laws.proofs.Trails.{trail_story, told_at}
 use Rattle.hw_model.specs.Lits.{IsLitOf}
-use Rattle.hw_laws.proofs.Denials.{lit_of}
-use Rattle.hw_story.proofs.Levels.{at_false, false_at}
-use Rattle.hw_story.proofs.Decisions.{event_is}
-use Rattle.hw_story.proofs.Passes.{hit_from, miss_before, miss_after, miss_nothing, match_by}
+use Rattle.hw_model_laws.proofs.Denials.{lit_of}
+use Rattle.hw_trail_laws.proofs.Levels.{at_false, false_at}
+use Rattle.hw_trail_laws.proofs.Decisions.{event_is}
+use Rattle.hw_trail_laws.proofs.Passes.{hit_from, miss_before, miss_after, miss_nothing, match_by}
 use Rattle.hw_model.specs.Rooms.{RoomModel}
 use Rattle.hw_flat.specs.Opened.{shape_in}
-use Rattle.hw_story.specs.declared.event.Event.{Event}
-use Rattle.hw_story.specs.Bridge.{idle}
-use Rattle.hw_story.specs.Knowing.{knows, always}
-use Rattle.hw_story.specs.Passes.{NothingOf, NoHit}
+use Rattle.hw_trail_laws.specs.declared.event.Event.{Event}
+use Rattle.hw_trail_laws.specs.Bridge.{idle}
+use Rattle.hw_trail_laws.specs.Knowing.{knows, always}
+use Rattle.hw_trail_laws.specs.Passes.{NothingOf, NoHit}
 use Rattle.std.proofs.Common.{MatchBool}
 use Rattle.std.specs.Prelude.{slice_get}
 use Rattle.hw_lemmas.proofs.Truths.{clash}

@@ -7,14 +7,14 @@ use Rattle.hw_model.specs.Lits.{negation, IsClause}
 use Rattle.hw_model.specs.Rooms.{RoomModel}
 use Rattle.hw_model.specs.Narrowing.{denied}
 use Rattle.hw_flat.specs.Opened.{shape_in}
-use Rattle.hw_story.specs.Sides.{same_side, implies}
-use Rattle.hw_story.specs.Knowing.{knows, always}
-use Rattle.hw_story.specs.Walks.{InClause, CoveredByLemma, SpellsLemma}
-use Rattle.hw_story.proofs.Sides.{SameSide, Implied, same_parts, implied_parts, same_from, same_trans, same_sym, same_when_implied, implies_self, implies_either}
-use Rattle.hw_story.proofs.Ends.{denied_parts, denied_from}
-use Rattle.hw_story.proofs.Denials.{denied_knows, knows_denied, in_fits}
-use Rattle.hw_story.proofs.Levels.{fits_fresh}
-use Rattle.hw_story.proofs.Normal.{one_a_side}
+use Rattle.hw_trail_laws.specs.Sides.{same_side, implies}
+use Rattle.hw_trail_laws.specs.Knowing.{knows, always}
+use Rattle.hw_trail_laws.specs.Walks.{InClause, CoveredByLemma, SpellsLemma}
+use Rattle.hw_trail_laws.proofs.Sides.{SameSide, Implied, same_parts, implied_parts, same_from, same_trans, same_sym, same_when_implied, implies_self, implies_either}
+use Rattle.hw_trail_laws.proofs.Ends.{denied_parts, denied_from}
+use Rattle.hw_trail_laws.proofs.Denials.{denied_knows, knows_denied, in_fits}
+use Rattle.hw_trail_laws.proofs.Levels.{fits_fresh}
+use Rattle.hw_trail_laws.proofs.Normal.{one_a_side}
 
 -- literals whose negations are of one side
 unnegated : (l m : Lit) → SameSide (negation l) (negation m) → SameSide l m

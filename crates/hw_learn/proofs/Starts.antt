@@ -7,18 +7,18 @@ use Rattle.hw_model.specs.declared.lit.Lit.{Lit}
 use Rattle.hw_model.specs.declared.lit.LitTruth.TheVariants.{False}
 use Rattle.hw_model.specs.Lits.{negation, lit_fits}
 use Rattle.hw_model.specs.Narrowing.{truth}
-use Rattle.hw_story.specs.declared.event.Event.{Event}
-use Rattle.hw_story.specs.Stories.{Story, room_at, IsStory}
-use Rattle.hw_story.specs.Walks.{InClause, EventBounds, IsTopLevel, story_level}
-use Rattle.hw_story.specs.Trails.{TrailModel, trail_shape, room_of, IsTrail}
-use Rattle.hw_story.specs.Learning.{event_of, level_by, level_made, level_of}
-use Rattle.hw_story.specs.Bridge.{event_at, story_of, GoesBack}
-use Rattle.hw_story.proofs.Stories.{room_grows, levels_rise}
-use Rattle.hw_story.proofs.Ends.{became}
-use Rattle.hw_story.proofs.Trails.{trail_story}
-use Rattle.hw_story.proofs.Levels.{made_false, false_end, fits_fresh, level_is, level_stays}
-use Rattle.hw_story.proofs.Decisions.{event_is}
-use Rattle.hw_story.proofs.Passes.{in_append, in_front, in_last}
+use Rattle.hw_trail_laws.specs.declared.event.Event.{Event}
+use Rattle.hw_trail_laws.specs.Stories.{Story, room_at, IsStory}
+use Rattle.hw_trail_laws.specs.Walks.{InClause, EventBounds, IsTopLevel, story_level}
+use Rattle.hw_trail_laws.specs.Trails.{TrailModel, trail_shape, room_of, IsTrail}
+use Rattle.hw_trail_laws.specs.Learning.{event_of, level_by, level_made, level_of}
+use Rattle.hw_trail_laws.specs.Bridge.{event_at, story_of, GoesBack}
+use Rattle.hw_trail_laws.proofs.Stories.{room_grows, levels_rise}
+use Rattle.hw_trail_laws.proofs.Ends.{became}
+use Rattle.hw_trail_laws.proofs.Trails.{trail_story}
+use Rattle.hw_trail_laws.proofs.Levels.{made_false, false_end, fits_fresh, level_is, level_stays}
+use Rattle.hw_trail_laws.proofs.Decisions.{event_is}
+use Rattle.hw_trail_laws.proofs.Passes.{in_append, in_front, in_last}
 use Rattle.hw_learn.specs.Starts.{IsLastFalsified, IsLevelOf, IsFirst, IsBack}
 
 -- ---- one past the last event

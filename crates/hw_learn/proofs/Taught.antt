@@ -5,20 +5,20 @@ use Rattle.hw_model.specs.declared.shape.Shape.{Shape}
 use Rattle.hw_model.specs.Lits.{lit_fits, IsClause}
 use Rattle.hw_model.specs.Rooms.{RoomModel, IsRoom, whole_room}
 use Rattle.hw_flat.specs.Opened.{shape_in}
-use Rattle.hw_story.specs.Replays.{Facts, Narrower}
-use Rattle.hw_story.specs.Stories.{Story, room_at}
-use Rattle.hw_story.specs.Walks.{InClause, Walk, Denies, SpellsLemma, WalkGives}
-use Rattle.hw_story.specs.Passes.{DeniesAll, Walks}
-use Rattle.hw_story.specs.Knowing.{knows, always}
-use Rattle.hw_story.specs.Trails.{TrailModel, trail_shape, IsTrail}
-use Rattle.hw_story.specs.Learning.{Learns}
-use Rattle.hw_story.specs.Bridge.{story_of}
-use Rattle.hw_story.proofs.Knowing.{know_world, know_basic}
-use Rattle.hw_story.proofs.Ends.{walk_start, walk_end}
-use Rattle.hw_story.proofs.Passes.{denies_from}
-use Rattle.hw_story.proofs.Denials.{in_fits, whole_knows}
-use Rattle.hw_story.proofs.Levels.{fits_fresh}
-use Rattle.hw_story.proofs.Learnt.{learns_from, all_in}
+use Rattle.hw_trail_laws.specs.Replays.{Facts, Narrower}
+use Rattle.hw_trail_laws.specs.Stories.{Story, room_at}
+use Rattle.hw_trail_laws.specs.Walks.{InClause, Walk, Denies, SpellsLemma, WalkGives}
+use Rattle.hw_trail_laws.specs.Passes.{DeniesAll, Walks}
+use Rattle.hw_trail_laws.specs.Knowing.{knows, always}
+use Rattle.hw_trail_laws.specs.Trails.{TrailModel, trail_shape, IsTrail}
+use Rattle.hw_trail_laws.specs.Learning.{Learns}
+use Rattle.hw_trail_laws.specs.Bridge.{story_of}
+use Rattle.hw_trail_laws.proofs.Knowing.{know_world, know_basic}
+use Rattle.hw_trail_laws.proofs.Ends.{walk_start, walk_end}
+use Rattle.hw_trail_laws.proofs.Passes.{denies_from}
+use Rattle.hw_trail_laws.proofs.Denials.{in_fits, whole_knows}
+use Rattle.hw_trail_laws.proofs.Levels.{fits_fresh}
+use Rattle.hw_trail_laws.proofs.Learnt.{learns_from, all_in}
 use Rattle.hw_learn.specs.Sames.{OfTrail}
 use Rattle.hw_learn.specs.Starts.{IsLastFalsified, IsLevelOf, IsFirst, IsBack}
 use Rattle.hw_learn.proofs.Hits.{start_is}

@@ -2,11 +2,11 @@
 use Rattle.std.specs.Prelude.{ℕ, false, List, [], ◌∷◌, ◌++◌, Option, MatchOption}
 use Rattle.hw_model.specs.declared.lit.Lit.{Lit}
 use Rattle.hw_model.specs.Rooms.{RoomModel}
-use Rattle.hw_story.specs.Bridge.{story_of}
-use Rattle.hw_story.specs.Knowing.{always, knows}
-use Rattle.hw_story.specs.Passes.{DeniesOthers, MostOf, NothingOf, StepKeeps, When}
-use Rattle.hw_story.specs.Trails.{TrailModel}
-use Rattle.hw_story.specs.Walks.{Hit}
+use Rattle.hw_trail_laws.specs.Bridge.{story_of}
+use Rattle.hw_trail_laws.specs.Knowing.{always, knows}
+use Rattle.hw_trail_laws.specs.Passes.{DeniesOthers, MostOf, NothingOf, StepKeeps, When}
+use Rattle.hw_trail_laws.specs.Trails.{TrailModel}
+use Rattle.hw_trail_laws.specs.Walks.{Hit}
 
 -- the greatest literal that the room knows of the literal's side, none where it knows no more than every room does
 abbrev pub IsMost : RoomModel → Lit → Option Lit → Type 0

@@ -5,8 +5,8 @@ ghost use Rattle.hw_model.specs.Rooms.{IsRoom};
 ghost use Rattle.hw_model.specs.Lits.{lit_fits};
 ghost use Rattle.hw_model.specs.Lits.{IsLitOf};
 ghost use Rattle.hw_flat.specs.Opened.{shape_in};
-ghost use Rattle.hw_story.specs.Knowing.{knows, always, widened};
-ghost use Rattle.hw_story.specs.Passes.{DeniesOne, MostOf, NothingOf};
+ghost use Rattle.hw_trail_laws.specs.Knowing.{knows, always, widened};
+ghost use Rattle.hw_trail_laws.specs.Passes.{DeniesOne, MostOf, NothingOf};
 ghost use Rattle.hw_learn.specs.Sames.{SameShape};
 ghost use Rattle.hw_learn.specs.Steps.{IsMost};
 

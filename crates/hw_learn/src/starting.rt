@@ -7,9 +7,9 @@ ghost use Rattle.hw_model.specs.Lits.{lit_fits};
 ghost use Rattle.hw_model.specs.Rooms.{IsRoom, whole_room};
 ghost use Rattle.hw_model.specs.Narrowing.{truth};
 ghost use Rattle.hw_model.specs.Lits.{IsLitOf};
-ghost use Rattle.hw_story.specs.Knowing.{knows};
-ghost use Rattle.hw_story.specs.Trails.{trail_shape, room_of};
-ghost use Rattle.hw_story.specs.Passes.{DeniesAll};
+ghost use Rattle.hw_trail_laws.specs.Knowing.{knows};
+ghost use Rattle.hw_trail_laws.specs.Trails.{trail_shape, room_of};
+ghost use Rattle.hw_trail_laws.specs.Passes.{DeniesAll};
 ghost use Rattle.hw_learn.specs.Sames.{OfTrail};
 ghost use Rattle.hw_learn.specs.Starts.{IsLastFalsified, IsLevelOf, IsFirst, IsBack};
 

@@ -4,11 +4,11 @@ ghost use Rattle.std.specs.Prelude.{◌≡◌, ℕ, ◌≤◌, ◌<◌, ◌++◌
 ghost use Rattle.hw_model.specs.declared.lit.Lit.{Lit as LitOf};
 ghost use Rattle.hw_model.specs.Rooms.{RoomModel, IsRoom};
 ghost use Rattle.hw_model.specs.Lits.{IsLitOf};
-ghost use Rattle.hw_story.specs.Knowing.{knows, widened};
-ghost use Rattle.hw_story.specs.Walks.{Hit, Miss};
-ghost use Rattle.hw_story.specs.Bridge.{story_of};
-ghost use Rattle.hw_story.specs.Trails.{reason_clause};
-ghost use Rattle.hw_story.specs.Passes.{HitBefore, NoHit, DeniesOthers, DeniesAll, StepKeeps, When, Walks};
+ghost use Rattle.hw_trail_laws.specs.Knowing.{knows, widened};
+ghost use Rattle.hw_trail_laws.specs.Walks.{Hit, Miss};
+ghost use Rattle.hw_trail_laws.specs.Bridge.{story_of};
+ghost use Rattle.hw_trail_laws.specs.Trails.{reason_clause};
+ghost use Rattle.hw_trail_laws.specs.Passes.{HitBefore, NoHit, DeniesOthers, DeniesAll, StepKeeps, When, Walks};
 ghost use Rattle.hw_learn.specs.Sames.{SameShape, OfTrail};
 ghost use Rattle.hw_learn.specs.Steps.{DeniesOneMore, IsDue, IsPassed};
 

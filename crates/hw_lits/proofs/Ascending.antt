@@ -5,8 +5,8 @@ use Rattle.hw_model.specs.declared.lit.Lit.{Lit}
 use Rattle.hw_model.specs.declared.lit.Lit.TheVariants as lits
 use Rattle.hw_model.specs.declared.shape.Shape.{Shape}
 use Rattle.hw_model.specs.Lits.{lit_fits, place_of, is_earlier, leaves_some, may_follow, keeps_form, first_bad_from, IsClause}
-use Rattle.hw_laws.proofs.Denials.{no_bad}
-use Rattle.hw_laws.proofs.Places.{Earlier, earlier_from, earlier_trans, not_itself}
+use Rattle.hw_model_laws.proofs.Denials.{no_bad}
+use Rattle.hw_model_laws.proofs.Places.{Earlier, earlier_from, earlier_trans, not_itself}
 
 -- no place lies between the two bounds of a ship
 between : (v a b c : ℕ) → Earlier 0 v 0 a b c → Earlier a b c 0 v 1 → ⊥

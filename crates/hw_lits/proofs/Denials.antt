@@ -11,8 +11,8 @@ use Rattle.hw_model.specs.declared.lit.Lit.TheVariants as lits
 use Rattle.hw_model.specs.declared.shape.Shape.{Shape}
 use Rattle.hw_model.specs.Rooms.{RoomModel, IsRoom, high_of}
 use Rattle.hw_model.specs.Narrowing.{cut, denied_from, denied}
-use Rattle.hw_laws.proofs.Denials.{no_bad, lit_of}
-use Rattle.hw_laws.proofs.Denying.{IsDenying, own_first, room_for, denying_step, whole_denying}
+use Rattle.hw_model_laws.proofs.Denials.{no_bad, lit_of}
+use Rattle.hw_model_laws.proofs.Denying.{IsDenying, own_first, room_for, denying_step, whole_denying}
 
 -- the literals from a place on are still to be denied
 pub record IsDenyingAt (shape : Shape) (all : List Lit) (place : ℕ) (room : RoomModel) : Type 0 where

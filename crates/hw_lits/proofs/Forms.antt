@@ -7,7 +7,7 @@ use Rattle.hw_model.specs.declared.lit.Lit.{Lit}
 use Rattle.hw_model.specs.declared.lit.Lit.TheVariants as lits
 use Rattle.hw_model.specs.declared.shape.Shape.{Shape}
 use Rattle.hw_model.specs.Lits.{lit_fits, keeps_form, BadLit, first_bad_from, first_bad, IsClause, IsLitOf}
-use Rattle.hw_laws.proofs.Denials.{lit_of, no_bad}
+use Rattle.hw_model_laws.proofs.Denials.{lit_of, no_bad}
 use Rattle.hw_lits.proofs.Ranks.{rank_after, FitsBefore, after_small, after_more}
 
 -- the literals up to a place were tested, and this one stood before it

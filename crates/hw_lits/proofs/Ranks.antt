@@ -5,8 +5,8 @@ use Rattle.hw_model.specs.declared.lit.Lit.{Lit}
 use Rattle.hw_model.specs.declared.lit.Lit.TheVariants as lits
 use Rattle.hw_model.specs.declared.shape.Shape.{Shape}
 use Rattle.hw_model.specs.Lits.{lit_fits, place_of, is_earlier, keeps_form, first_bad_from, IsLitOf}
-use Rattle.hw_laws.proofs.Denials.{lit_of, no_bad}
-use Rattle.hw_laws.proofs.Places.{Earlier, earlier_from}
+use Rattle.hw_model_laws.proofs.Denials.{lit_of, no_bad}
+use Rattle.hw_model_laws.proofs.Places.{Earlier, earlier_from}
 
 -- the number of a pair (v, w) is that of v and w together
 pair_base : ℕ → ℕ

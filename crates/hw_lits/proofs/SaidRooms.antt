@@ -12,12 +12,12 @@ use Rattle.hw_model.specs.Rooms.{RoomModel, IsRoom, low_of, high_of, order_of, w
 use Rattle.hw_model.specs.Narrowing.{cut, with_range, with_order, denied_from, denied}
 use Rattle.hw_model.proofs.Kept.{with_order_no_pair}
 use Rattle.hw_flat.specs.Opened.{shape_in}
-use Rattle.hw_laws.proofs.Bounds.{low_new, high_new, low_other, high_other}
-use Rattle.hw_laws.proofs.Cuts.{full_cut, same_ships}
-use Rattle.hw_laws.proofs.Denials.{no_bad}
-use Rattle.hw_laws.proofs.Places.{from_earlier, earlier_trans}
-use Rattle.hw_laws.proofs.Ranges.{IsFull, new_order, other_order, cases_pair}
-use Rattle.hw_laws.proofs.Same.{same_room}
+use Rattle.hw_model_laws.proofs.Bounds.{low_new, high_new, low_other, high_other}
+use Rattle.hw_model_laws.proofs.Cuts.{full_cut, same_ships}
+use Rattle.hw_model_laws.proofs.Denials.{no_bad}
+use Rattle.hw_model_laws.proofs.Places.{from_earlier, earlier_trans}
+use Rattle.hw_model_laws.proofs.Ranges.{IsFull, new_order, other_order, cases_pair}
+use Rattle.hw_model_laws.proofs.Same.{same_room}
 use Rattle.hw_lits.specs.Said.{above_said, below_said, turned, turned_said, one_or_none}
 
 -- ---- lists with one more literal

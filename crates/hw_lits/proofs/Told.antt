@@ -10,7 +10,7 @@ use Rattle.hw_model.specs.declared.narrowing.Narrowed.TheVariants.{Same, Cut, Co
 use Rattle.hw_model.specs.Rooms.{RoomModel}
 use Rattle.hw_model.specs.Narrowing.{truth}
 use Rattle.hw_model.specs.Replay.{is_true, is_free, some_true, free_lits, step_by, narrowing}
-use Rattle.hw_laws.proofs.Counting.{at_place}
+use Rattle.hw_model_laws.proofs.Counting.{at_place}
 use Rattle.hw_lits.specs.Steps.{NarrowingTells}
 
 -- one more literal before them that is False

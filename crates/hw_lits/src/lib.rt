@@ -17,10 +17,10 @@ pub use cutting::{cut, truth};
 pub use denying::deny;
 pub use fault::ClauseFault;
 pub use found::Found;
-pub use hw_laws::{
+pub use hw_model::{Lit, LitTruth, Narrowed};
+pub use hw_model_laws::{
     cut_is_room, cut_room, denied_is_room, denied_room, sound_replay, truth_in_room,
 };
-pub use hw_model::{Lit, LitTruth, Narrowed};
 pub use laws::{clause_ascends, clause_is_normal, one_of_a_side, step_tells};
 pub use spelling::clause_of_room;
 pub use stepping::{narrow, narrow_lits, narrowing, narrowing_lits};

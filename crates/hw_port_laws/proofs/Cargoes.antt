@@ -5,7 +5,7 @@ use Rattle.hw_model.specs.Timetables.{plus, cargo_from}
 use Rattle.hw_port.specs.Parts.{ShipParts}
 use Rattle.hw_port.specs.Whole.{Parts}
 use Rattle.hw_tide.specs.Levels.{TideParts}
-use Rattle.hw_port_rules.specs.Permitted.{ship_cargo, cargo_of}
+use Rattle.hw_port_model.specs.Permitted.{ship_cargo, cargo_of}
 
 pub cargo_alike : (p : Parts) (h : TideParts) (f : Problem) (v : ℕ) (ss : List ShipParts) (ts : List ℕ) → length ts ≡ length ss → ((i k x : ℕ) (s : ShipParts) → k ≡ v + i → slice_get ss i ≡ Some s → slice_get ts i ≡ Some x → ship_cargo p h (s, x) ≡ value_at f k x) → cargo_of p h (zip ss ts) ≡ cargo_from f v ts
 cargo_alike p h f v [] [] many at = refl

@@ -31,8 +31,8 @@ use Rattle.hw_model.specs.Limits.{IsFlat}
 use Rattle.hw_model.specs.Lits.{lit_fits, keeps_form, out_of_range, not_normal, first_bad_from}
 use Rattle.hw_model.specs.Refuting.{Refutes}
 use Rattle.hw_model.specs.Quiet.{QuietSource, SpeaksOnlyOf, names_order, names_lit}
-use Rattle.hw_laws.proofs.Alikes.{alike_refutes}
-use Rattle.hw_laws.proofs.Quiets.{back, cut_alike}
+use Rattle.hw_model_laws.proofs.Alikes.{alike_refutes}
+use Rattle.hw_model_laws.proofs.Quiets.{back, cut_alike}
 use Rattle.hw_model.specs.Refuting.{IsSourceOf}
 use Rattle.hw_model.specs.Rooms.{RoomFits}
 use Rattle.hw_model.specs.Narrowing.{cut}

@@ -7,7 +7,7 @@ use Rattle.hw_model.specs.Problem.{Problem}
 use Rattle.hw_model.specs.Limits.{IsFlat, RuleFits}
 use Rattle.hw_model.specs.Rooms.{RoomModel}
 use Rattle.hw_model.specs.Refuting.{Refutes, RuleRefutes, IsSourceOf}
-use Rattle.hw_laws.proofs.Counting.{at_place}
+use Rattle.hw_model_laws.proofs.Counting.{at_place}
 use Rattle.hw_prop.specs.Ruled.{rule_of}
 use Rattle.hw_prop.specs.Scope.{rule_ships, rule_pairs}
 use Rattle.hw_prop.specs.Speaks.{SpokenOf}

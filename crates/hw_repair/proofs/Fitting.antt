@@ -6,7 +6,7 @@ use Rattle.std.proofs.lemmas.Nat.{div-add-mod', div_below, mod_below}
 use Rattle.std.proofs.lemmas.List.Elements.{All-nil, All-cons, All-from_get_or}
 use Rattle.std.specs.List.{list_any, range_with_len}
 use Rattle.hw_lemmas.specs.Operators.{◌>>=◌}
-use Rattle.hw_derived.specs.Slots.{slot_form}
+use Rattle.hw_plan_texts.specs.Slots.{slot_form}
 use Rattle.hw_text.specs.Parts.{words_of}
 use Rattle.hw_model.specs.Problem.{Problem, value_at}
 use Rattle.hw_model.specs.Limits.{IsFlat}
@@ -15,8 +15,8 @@ use Rattle.hw_repair.specs.declared.fault.PlanWord.TheVariants as words
 use Rattle.hw_repair.specs.declared.plan.Wish.{Wish}
 use Rattle.hw_repair.specs.declared.plan.Wish.TheVariants.{Kept, Planned}
 use Rattle.hw_repair.specs.Wishes.{PlanParts, WishFits, IsRepairable, PlanFits}
-use Rattle.hw_derived.proofs.Reading.{bind_ok, formed_ok, slot_below}
-use Rattle.hw_derived.specs.Reading.{MalformedLine, malformed_line, formed_line, formed_line_at}
+use Rattle.hw_plan_texts.proofs.Reading.{bind_ok, formed_ok, slot_below}
+use Rattle.hw_plan_texts.specs.Reading.{MalformedLine, malformed_line, formed_line, formed_line_at}
 use Rattle.hw_repair.specs.Text.{kept_by, planned_by, kept_words, planned_words, wish_words, wish_form, is_large, wish_at, wishes_at}
 
 -- ---- a wish

@@ -7,11 +7,11 @@ use Rattle.std.proofs.lemmas.Option.{same_Some, get_or_from_slice_get}
 use Rattle.std.proofs.lemmas.List.Elements.{All-get_or}
 use Rattle.hw_lemmas.proofs.Truths.{if_some, if_some_from}
 use Rattle.hw_lemmas.proofs.Lists.{get_within, has_get}
-use Rattle.hw_derived.specs.Fleets.{lessened}
-use Rattle.hw_derived.proofs.Alike.{rules_alike}
-use Rattle.hw_derived.proofs.Fleets.{lessened_fits, lessened_cargo}
-use Rattle.hw_derived.proofs.Grids.{grid_length, grid_all, grid_value}
-use Rattle.hw_laws.proofs.Permitted.{has_cargo}
+use Rattle.hw_plan_texts.specs.Fleets.{lessened}
+use Rattle.hw_plan_texts.proofs.Alike.{rules_alike}
+use Rattle.hw_plan_texts.proofs.Fleets.{lessened_fits, lessened_cargo}
+use Rattle.hw_plan_texts.proofs.Grids.{grid_length, grid_all, grid_value}
+use Rattle.hw_model_laws.proofs.Permitted.{has_cargo}
 use Rattle.hw_model.specs.Problem.{Problem, IsTimetable, value_at, horizon}
 use Rattle.hw_model.specs.Limits.{IsFlat}
 use Rattle.hw_model.specs.Rules.{rule_holds}

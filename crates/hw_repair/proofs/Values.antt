@@ -4,7 +4,7 @@ use Rattle.std.proofs.lemmas.Bool.{eqb-true, eq-eqb, leb-true, le-leb}
 use Rattle.std.proofs.lemmas.Option.{get_or_from_slice_get, slice_get-get_or}
 use Rattle.std.proofs.lemmas.List.Elements.{All-get_or}
 use Rattle.hw_lemmas.proofs.Lists.{get_within}
-use Rattle.hw_derived.proofs.Grids.{grid_value}
+use Rattle.hw_plan_texts.proofs.Grids.{grid_value}
 use Rattle.hw_model.specs.Problem.{Problem, value_at}
 use Rattle.hw_repair.specs.declared.plan.Wish.{Wish}
 use Rattle.hw_repair.specs.declared.plan.Wish.TheVariants.{Kept, Planned}

@@ -12,7 +12,7 @@ use Rattle.hw_text.proofs.Spelled.{reads_back}
 use Rattle.hw_flat.proofs.TextLacks.{number_lacks, joined_lacks}
 use Rattle.hw_model.specs.Limits.{IsFlat}
 use Rattle.hw_model.specs.Problem.{Problem, value_at}
-use Rattle.hw_laws.proofs.Horizon.{few_slots}
+use Rattle.hw_model_laws.proofs.Horizon.{few_slots}
 use Rattle.hw_repair.specs.declared.plan.Wish.{Wish}
 use Rattle.hw_repair.specs.declared.plan.Wish.TheVariants.{Kept, Planned}
 use Rattle.hw_repair.specs.Wishes.{PlanParts, PlanFits, WishFits}

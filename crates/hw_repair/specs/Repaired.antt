@@ -1,7 +1,7 @@
 -- The problem of a plan's repair, and its best repairs.
 use Rattle.std.specs.Prelude.{◌≡◌, ◌==◌, ℕ, ◌+◌, ◌-◌, ◌*◌, ◌/◌, ◌%◌, ◌≤◌, if◌then◌else◌, List, map, Option, Some, None, option_map, option_and_then, slice_get}
-use Rattle.hw_derived.specs.Fleets.{lessened_rule}
-use Rattle.hw_derived.specs.Grids.{grid_of_values}
+use Rattle.hw_plan_texts.specs.Fleets.{lessened_rule}
+use Rattle.hw_plan_texts.specs.Grids.{grid_of_values}
 use Rattle.hw_model.specs.Problem.{Problem, value_at}
 use Rattle.hw_model.specs.Timetables.{cargo}
 use Rattle.hw_repair.specs.declared.plan.Wish.{Wish}

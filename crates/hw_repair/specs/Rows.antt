@@ -1,6 +1,6 @@
 -- Small plans with what was worked out for them by hand.
 use Rattle.std.specs.Prelude.{◌≡◌, [], ◌∷◌, Some, None, Ok, Err, codes, false, List}
-use Rattle.hw_laws.specs.Rows.{two_apart, one_stays}
+use Rattle.hw_model_laws.specs.Rows.{two_apart, one_stays}
 use Rattle.hw_model.specs.declared.rule.Rule.TheVariants.{Tugs}
 use Rattle.hw_model.specs.Problem.{Problem}
 use Rattle.hw_repair.specs.declared.fault.PlanWord.TheVariants as words

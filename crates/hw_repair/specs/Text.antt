@@ -6,8 +6,8 @@ use Rattle.hw_model.specs.declared.limits.TheConstants.{MOST_VALUE, MOST_FLEET}
 use Rattle.hw_model.specs.declared.rule.Rule.{Rule}
 use Rattle.hw_model.specs.declared.rule.Rule.TheVariants.{Tugs}
 use Rattle.hw_model.specs.Problem.{Problem, value_at}
-use Rattle.hw_derived.specs.Reading.{MalformedLine, malformed_line, formed_line, formed_line_at, only_at, ended_at}
-use Rattle.hw_derived.specs.Slots.{slot_form}
+use Rattle.hw_plan_texts.specs.Reading.{MalformedLine, malformed_line, formed_line, formed_line_at, only_at, ended_at}
+use Rattle.hw_plan_texts.specs.Slots.{slot_form}
 use Rattle.hw_text.specs.Numbers.{number_from_to}
 use Rattle.hw_text.specs.Parts.{parts_of, words_of}
 use Rattle.hw_repair.specs.declared.fault.PlanWord.{PlanWord}

@@ -3,7 +3,7 @@ use Rattle.std.specs.Prelude.{◌≡◌, ◌==◌, ℕ, ◌+◌, ◌*◌, ◌<�
 use Rattle.hw_model.specs.declared.limits.TheConstants.{MOST_VALUE}
 use Rattle.hw_model.specs.Problem.{Problem}
 use Rattle.hw_model.specs.Timetables.{Permits}
-use Rattle.hw_derived.specs.Fleets.{lessened}
+use Rattle.hw_plan_texts.specs.Fleets.{lessened}
 use Rattle.hw_repair.specs.declared.plan.Wish.{Wish}
 use Rattle.hw_repair.specs.declared.plan.Wish.TheVariants.{Kept, Planned}
 

@@ -3,7 +3,7 @@
 ghost use Rattle.std.specs.Prelude.{◌≡◌, codes};
 ghost use Rattle.hw_repair.specs.Words.{plan_word_text};
 
-use hw_derived::LineFault;
+use hw_plan_texts::LineFault;
 
 /// What was demanded at the first bad line.
 #[derive(Clone, Copy)]

@@ -5,9 +5,9 @@ ghost use Rattle.std.specs.List.{list_all};
 ghost use Rattle.hw_repair.specs.Text.{kept_words, planned_words, wish_form, rule_has_tugs, withdrawn_form, is_large};
 
 use crate::plan::Wish;
-use hw_derived::slot_of;
 use hw_flat::Flat;
 use hw_model::{MOST_FLEET, MOST_VALUE, Rule, ShipId};
+use hw_plan_texts::slot_of;
 use hw_text::{Words, is_text, read_small};
 
 /// `SLOT`, of a ship that has sailed.

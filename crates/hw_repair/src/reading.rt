@@ -2,16 +2,16 @@
 
 ghost use Rattle.std.specs.Prelude.{◌≡◌, ◌≤◌, ◌<◌, ◌+◌, IfOk};
 ghost use Rattle.hw_text.specs.Parts.{parts_of};
-ghost use Rattle.hw_derived.specs.Reading.{TextReadGives};
+ghost use Rattle.hw_plan_texts.specs.Reading.{TextReadGives};
 ghost use Rattle.hw_repair.specs.Text.{withdrawn_at, opening_at, wish_at, wishes_at, plan_of, plan_text};
 ghost use Rattle.hw_repair.specs.Wishes.{PlanFits};
 
 use crate::fault::{PlanFault, PlanWord};
 use crate::forms::{is_large, wish_of, withdrawn_of};
 use crate::plan::{Plan, Wish};
-use hw_derived::{LineFault, line_of, only};
 use hw_flat::Flat;
 use hw_model::{Rule, ShipId};
+use hw_plan_texts::{LineFault, line_of, only};
 use hw_text::{is_end, is_text};
 use std::alloc::Global;
 

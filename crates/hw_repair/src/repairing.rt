@@ -1,16 +1,16 @@
 //! The problem of a plan's repair.
 
 ghost use Rattle.std.specs.Prelude.{◌≡◌, ◌==◌, ◌<◌, ◌≤◌, ◌++◌, IfOk, OnOk, map, unwrap_or};
-ghost use Rattle.hw_derived.specs.Fleets.{lessened_rule};
-ghost use Rattle.hw_derived.specs.Grids.{row_of, grid_of_values};
+ghost use Rattle.hw_plan_texts.specs.Fleets.{lessened_rule};
+ghost use Rattle.hw_plan_texts.specs.Grids.{row_of, grid_of_values};
 ghost use Rattle.hw_flat.specs.TextWritten.{IsWritable};
 ghost use Rattle.hw_repair.specs.Wishes.{grants, wished, PlanFits, IsRepairable};
 ghost use Rattle.hw_repair.specs.Repaired.{repaired_value, value_by, repaired};
 
 use crate::plan::{Plan, Wish};
-use hw_derived::lessened_rules;
 use hw_flat::Flat;
 use hw_model::{MOST_SHIPS, NoMemory, Rule, ShipId, Slot};
+use hw_plan_texts::lessened_rules;
 use std::alloc::{AllocError, Global};
 
 /// Whether the wish grants a slot.

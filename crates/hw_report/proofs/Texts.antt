@@ -4,12 +4,12 @@ use Rattle.std.specs.Fmt.{digits}
 use Rattle.hw_desk.specs.declared.desk.Feed.TheVariants as feeds
 use Rattle.hw_flat.specs.declared.fault.FlatWord.TheVariants as flats
 use Rattle.hw_cert.specs.declared.stop.FormWord.TheVariants as forms
-use Rattle.hw_lines.specs.declared.check.CheckWord.TheVariants as checks
-use Rattle.hw_lines.specs.declared.check.Verdict.TheVariants as verdicts
+use Rattle.hw_cert_lines.specs.declared.check.CheckWord.TheVariants as checks
+use Rattle.hw_cert_lines.specs.declared.check.Verdict.TheVariants as verdicts
 use Rattle.hw_port.specs.declared.fault.PortWord.TheVariants as ports
 use Rattle.hw_port.specs.Places.{path_text}
-use Rattle.hw_port_rules.proofs.Small.{small, tides}
-use Rattle.hw_port_rules.specs.Flattened.{flattened}
+use Rattle.hw_port_model.proofs.Small.{small, tides}
+use Rattle.hw_port_model.specs.Flattened.{flattened}
 use Rattle.hw_tide.specs.declared.fault.TideFault.TheVariants as tide_faults
 use Rattle.hw_report.specs.declared.report.Head.TheVariants.{Optimal, Infeasible, Unfinished, Memory}
 use Rattle.hw_report.specs.declared.report.RefusedWord.TheVariants.{Form, Check}

@@ -5,10 +5,10 @@ use Rattle.hw_model.specs.Problem.{Problem, stays, value_at}
 use Rattle.hw_port.specs.Parts.{ShipParts}
 use Rattle.hw_port.specs.Whole.{Parts}
 use Rattle.hw_tide.specs.Levels.{TideParts}
-use Rattle.hw_lines.specs.declared.check.Verdict.{Verdict}
-use Rattle.hw_lines.specs.declared.check.Verdict.TheVariants as verdicts
-use Rattle.hw_port_rules.specs.Numbers.{whole, horizon_of}
-use Rattle.hw_port_rules.specs.Drafts.{sailing, value}
+use Rattle.hw_cert_lines.specs.declared.check.Verdict.{Verdict}
+use Rattle.hw_cert_lines.specs.declared.check.Verdict.TheVariants as verdicts
+use Rattle.hw_port_model.specs.Numbers.{whole, horizon_of}
+use Rattle.hw_port_model.specs.Drafts.{sailing, value}
 use Rattle.hw_report.specs.declared.report.Head.{Head}
 use Rattle.hw_report.specs.declared.report.Head.TheVariants.{Optimal, Infeasible, Unfinished, Memory}
 use Rattle.hw_report.specs.Pieces.{joined, tenths}

@@ -1,7 +1,7 @@
 -- Which reports can be printed.
 use Rattle.std.specs.Prelude.{◌≡◌, List, ℕ, length, Option, Some, None, ⊤}
 use Rattle.hw_model.specs.Problem.{Problem, IsTimetable}
-use Rattle.hw_port_rules.specs.Flattened.{flattened}
+use Rattle.hw_port_model.specs.Flattened.{flattened}
 use Rattle.hw_report.specs.Reports.{Naming, by_number, by_name, Report, solved}
 
 -- the timetable, if there is one, is one of the problem

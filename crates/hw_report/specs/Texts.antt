@@ -2,8 +2,8 @@
 use Rattle.std.specs.Prelude.{ℕ, Bool, true, false, List, [], ◌∷◌, Option, Some, None, codes, decimal, option_and_then}
 use Rattle.hw_model.specs.Problem.{Problem}
 use Rattle.hw_model.specs.Timetables.{cargo}
-use Rattle.hw_lines.specs.declared.check.CheckWord.TheVariants as checks
-use Rattle.hw_lines.specs.declared.check.Verdict.{Verdict}
+use Rattle.hw_cert_lines.specs.declared.check.CheckWord.TheVariants as checks
+use Rattle.hw_cert_lines.specs.declared.check.Verdict.{Verdict}
 use Rattle.hw_tide.specs.declared.fault.TideFault.{TideFault}
 use Rattle.hw_tide.specs.declared.fault.TideFault.TheVariants as tides
 use Rattle.hw_report.specs.declared.report.Head.{Head}

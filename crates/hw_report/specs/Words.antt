@@ -4,8 +4,8 @@ use Rattle.hw_desk.specs.declared.desk.Feed.{Feed}
 use Rattle.hw_desk.specs.declared.desk.Feed.TheVariants.{Flat, Instance, Tides, Certificate, Plan, Events, Clash, Split}
 use Rattle.hw_flat.specs.declared.fault.FlatWord.{FlatWord}
 use Rattle.hw_flat.specs.declared.fault.FlatWord.TheVariants as words
-use Rattle.hw_lines.specs.declared.check.CheckWord.{CheckWord}
-use Rattle.hw_lines.specs.declared.check.CheckWord.TheVariants as checks
+use Rattle.hw_cert_lines.specs.declared.check.CheckWord.{CheckWord}
+use Rattle.hw_cert_lines.specs.declared.check.CheckWord.TheVariants as checks
 use Rattle.hw_cert.specs.declared.stop.FormWord.{FormWord}
 use Rattle.hw_cert.specs.declared.stop.FormWord.TheVariants as forms
 use Rattle.hw_report.specs.declared.report.RefusedWord.{RefusedWord}

@@ -3,8 +3,8 @@
 ghost use Rattle.std.specs.Prelude.{◌≡◌, ◌≤◌, ◌<◌, ◌*◌, ◌∷◌, [], length, pos, unwrap_or, false, nat_le, codes};
 ghost use Rattle.hw_model.specs.Problem.{IsTimetable};
 ghost use Rattle.hw_port.specs.Kept.{Within};
-ghost use Rattle.hw_port_rules.specs.Drafts.{sailing as sailing_draft};
-ghost use Rattle.hw_port_rules.specs.Numbers.{whole, horizon_of};
+ghost use Rattle.hw_port_model.specs.Drafts.{sailing as sailing_draft};
+ghost use Rattle.hw_port_model.specs.Numbers.{whole, horizon_of};
 ghost use Rattle.hw_report.specs.Lines.{numbered, cargo_line, cargo_text, so_far, unfinished_text, head_text, bound_text, moved_line, number_line, name_in, sail_line, sailing_line, named_ship_line, ship_line, ship_lines, table_text};
 ghost use Rattle.hw_report.specs.Pieces.{piece_text, joined};
 ghost use Rattle.hw_report.specs.Printing.{AreNamesOf, IsTableOfProblem};

@@ -14,7 +14,7 @@ use Rattle.hw_model.specs.Rules.{pair_holds}
 use Rattle.hw_model.specs.Rooms.{RoomModel, agrees, order_of}
 use Rattle.hw_model.specs.Refuting.{NoneMeets, fits_order}
 use Rattle.hw_model.specs.RefutingComputed.{none_meets}
-use Rattle.hw_laws.proofs.Tested.{tested, tests}
+use Rattle.hw_model_laws.proofs.Tested.{tested, tests}
 use Rattle.hw_rules.specs.declared.spacing.Freeing.TheVariants.{Either, Lesser, Greater}
 use Rattle.hw_rules.specs.OneHole.{one_hole_by, one_hole}
 use Rattle.hw_rules.specs.Differences.{HasSlots, Agrees, NonePasses, passes, clears, two_at, hole_above, hole_below}

@@ -8,7 +8,7 @@ use Rattle.hw_model.specs.Problem.{Problem}
 use Rattle.hw_model.specs.Rooms.{RoomModel}
 use Rattle.hw_model.specs.Refuting.{Refutes}
 use Rattle.hw_model.specs.RefutingComputed.{refutes, refutes_at, rule_refutes}
-use Rattle.hw_laws.proofs.Tested.{tested, tests}
+use Rattle.hw_model_laws.proofs.Tested.{tested, tests}
 
 pub means_of : (f : Problem) (source at : Source) (best : Option ℕ) (room : RoomModel) (b : Bool) → source ≡ at → b ≡ refutes f at best room → (IsTrue b ↔ Refutes f source best room)
 means_of f source at best room b same is =

@@ -8,7 +8,7 @@ use Rattle.std.proofs.Math.Nat.{pow-zero, pow-succ', mul-le-mul_right, mod-lt, d
 use Rattle.hw_model.specs.Problem.{Problem, IsTimetable}
 use Rattle.hw_model.specs.Walk.{rank, table_count}
 use Rattle.hw_rules.specs.Listing.{Precedes}
-use Rattle.hw_laws.proofs.Rank.{rank_lt, same_rank, lt_by}
+use Rattle.hw_model_laws.proofs.Rank.{rank_lt, same_rank, lt_by}
 
 -- a lesser first slot outweighs all the others
 outweighs : (s x y : ℕ) (xs ys : List ℕ) → AllByRecursion (λ t. t < s) xs → length xs ≡ length ys → x < y → x * s ^ length xs + rank s xs < y * s ^ length ys + rank s ys

@@ -2,7 +2,7 @@
 use Rattle.std.proofs.Common.{◌≡◌, ◌↔◌, ℕ, Bool, false, List, Option, Some, None, IsTrue, is_some, not, true, sym, ◌∙◌, refl}
 use Rattle.hw_model.specs.Problem.{Problem, IsTimetable}
 use Rattle.hw_model.specs.Timetables.{Permits, FirstBroken, first_broken}
-use Rattle.hw_laws.proofs.Broken.{permits_from, from_permits, is_first_broken}
+use Rattle.hw_model_laws.proofs.Broken.{permits_from, from_permits, is_first_broken}
 
 -- none is found exactly where the timetable is permitted
 pub none_broken : (f : Problem) (table : List ℕ) → IsTimetable f table → None ≡ first_broken f table → Permits f table

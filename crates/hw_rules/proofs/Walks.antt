@@ -5,8 +5,8 @@ use Rattle.hw_lemmas.proofs.Truths.{same_some}
 use Rattle.hw_model.specs.Problem.{Problem, IsTimetable}
 use Rattle.hw_model.specs.Timetables.{Permits, NonePermitted, cargo, beats}
 use Rattle.hw_model.specs.Walk.{rank, table_count, FirstBest}
-use Rattle.hw_laws.proofs.Cargoes.{has_cargo}
-use Rattle.hw_laws.proofs.Rank.{rank_lt, same_rank, first_is_best, none_of_all}
+use Rattle.hw_model_laws.proofs.Cargoes.{has_cargo}
+use Rattle.hw_model_laws.proofs.Rank.{rank_lt, same_rank, first_is_best, none_of_all}
 use Rattle.hw_rules.specs.declared.outcome.Walked.{Walked}
 use Rattle.hw_rules.specs.declared.outcome.Walked.TheVariants.{Best, NoneLeft, Spent}
 use Rattle.hw_rules.specs.Outcomes.{WalkedTo, SomePermitted, IsBestFound, IsNoneLeft, IsSpent, FoundIsBest}

@@ -5,27 +5,27 @@ use Rattle.std.specs.List.{cons_option}
 use Rattle.std.proofs.lemmas.List.Elements.{All-nil, All-push}
 use Rattle.hw_model.specs.declared.lit.Lit.{Lit}
 use Rattle.hw_model.specs.Rooms.{RoomWithin}
-use Rattle.hw_tolls.specs.declared.toll.Toll.{Toll}
-use Rattle.hw_lines.specs.declared.line.Line.{Line}
-use Rattle.hw_lines.specs.declared.line.Line.TheVariants as lines
-use Rattle.hw_lines.specs.Valid.{LineFits, ValidAfter, denied_room}
-use Rattle.hw_lines.specs.Lemmas.{LeanAfter, IsNew}
-use Rattle.hw_story.specs.declared.event.Event.{Event}
-use Rattle.hw_story.specs.declared.event.Why.TheVariants as whys
+use Rattle.hw_price_laws.specs.declared.toll.Toll.{Toll}
+use Rattle.hw_cert_lines.specs.declared.line.Line.{Line}
+use Rattle.hw_cert_lines.specs.declared.line.Line.TheVariants as lines
+use Rattle.hw_cert_lines.specs.Valid.{LineFits, ValidAfter, denied_room}
+use Rattle.hw_cert_lines.specs.Lemmas.{LeanAfter, IsNew}
+use Rattle.hw_trail_laws.specs.declared.event.Event.{Event}
+use Rattle.hw_trail_laws.specs.declared.event.Why.TheVariants as whys
 use Rattle.hw_cert.specs.declared.log.LogStop.{LogStop}
 use Rattle.hw_cert.specs.declared.log.LogStop.TheVariants as stops
 use Rattle.hw_cert.specs.Logs.{LogTold, LogModel, WhereTold, Grows, IsBegunLine}
-use Rattle.hw_progress.specs.Prices.{PriceModel}
-use Rattle.hw_progress.specs.Searches.{SearchModel, IsSearch, FitsOpen, LiveKept, LogFits}
-use Rattle.hw_progress.specs.Settling.{with_events}
-use Rattle.hw_progress.specs.Laws.{PriceLine, PriceMeets}
-use Rattle.hw_progress.specs.Advised.{HeedWrites, Heeds, IsCutOff, with_priced}
-use Rattle.hw_progress.proofs.Heeded.{heeds_none}
-use Rattle.hw_progress.proofs.Lines.{same_lemmas}
-use Rattle.hw_progress.proofs.Told.{grown}
-use Rattle.hw_ledger.specs.Handing.{TakesAll, StopsAfter, StopsWithin}
+use Rattle.hw_search_laws.specs.Prices.{PriceModel}
+use Rattle.hw_search_laws.specs.Searches.{SearchModel, IsSearch, FitsOpen, LiveKept, LogFits}
+use Rattle.hw_search_laws.specs.Settling.{with_events}
+use Rattle.hw_search_laws.specs.Laws.{PriceLine, PriceMeets}
+use Rattle.hw_search_laws.specs.Advised.{HeedWrites, Heeds, IsCutOff, with_priced}
+use Rattle.hw_search_laws.proofs.Heeded.{heeds_none}
+use Rattle.hw_search_laws.proofs.Lines.{same_lemmas}
+use Rattle.hw_search_laws.proofs.Told.{grown}
+use Rattle.hw_search_ledger.specs.Handing.{TakesAll, StopsAfter, StopsWithin}
 use Rattle.hw_search.specs.Pricing.{HeedStops}
-use Rattle.hw_ledger.proofs.Handed.{grown_with, grows_by}
+use Rattle.hw_search_ledger.proofs.Handed.{grown_with, grows_by}
 
 -- ---- a line that was taken
 

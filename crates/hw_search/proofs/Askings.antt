@@ -13,10 +13,10 @@ use Rattle.hw_model.specs.Rooms.{RoomModel}
 use Rattle.hw_lits.specs.declared.found.Found.{Found}
 use Rattle.hw_lits.specs.declared.found.Found.TheVariants as founds
 use Rattle.hw_prop.specs.Finds.{Finds, Explanation}
-use Rattle.hw_story.specs.declared.event.Why.TheVariants as whys
-use Rattle.hw_progress.specs.Searches.{SearchModel, IsSearch, IsReason, best_cargo, room_in}
+use Rattle.hw_trail_laws.specs.declared.event.Why.TheVariants as whys
+use Rattle.hw_search_laws.specs.Searches.{SearchModel, IsSearch, IsReason, best_cargo, room_in}
 use Rattle.hw_search.specs.Engines.{EngineModel, KeepsEngine, QuietUnmarked}
-use Rattle.hw_sources.specs.Speaking.{SpeakersModel}
+use Rattle.hw_search_sources.specs.Speaking.{SpeakersModel}
 use Rattle.hw_search.proofs.Markings.{written_whole, of_all}
 
 -- ---- propagators that were written through their vector

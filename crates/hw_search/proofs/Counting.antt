@@ -7,24 +7,24 @@ use Rattle.hw_model.specs.Problem.{Problem, shape_of}
 use Rattle.hw_model.specs.Timetables.{cargo, beats}
 use Rattle.hw_model.specs.Lits.{lit_fits}
 use Rattle.hw_model.specs.Rooms.{whole_room, point_of}
-use Rattle.hw_laws.proofs.Denials.{inside_whole}
-use Rattle.hw_laws.proofs.Sound.{cargo_le}
-use Rattle.hw_story.specs.declared.event.Why.{Why}
-use Rattle.hw_story.specs.Trails.{trail_shape, decided, most_events}
+use Rattle.hw_model_laws.proofs.Denials.{inside_whole}
+use Rattle.hw_model_laws.proofs.Sound.{cargo_le}
+use Rattle.hw_trail_laws.specs.declared.event.Why.{Why}
+use Rattle.hw_trail_laws.specs.Trails.{trail_shape, decided, most_events}
 use Rattle.hw_cert.specs.Logs.{LogModel}
-use Rattle.hw_progress.specs.declared.outcome.Turn.{Turn}
-use Rattle.hw_progress.specs.declared.outcome.Turn.TheVariants as turns
-use Rattle.hw_progress.specs.Branches.{branch_literal}
-use Rattle.hw_progress.specs.Searches.{SearchModel, IsSearch, best_cargo, room_in}
-use Rattle.hw_progress.specs.Settling.{Implies}
-use Rattle.hw_progress.specs.Turns.{cited, cite_conflict, with_lemma, to_level, restart_is_due, gone_back, is_last, DoesDecide, DoesBetter, DoesLemma, TurnDoes}
-use Rattle.hw_progress.proofs.Bounds.{few_reasons}
-use Rattle.hw_progress.proofs.Choices.{branch_open, IsOpen}
-use Rattle.hw_progress.proofs.Holds.{room_fits}
-use Rattle.hw_progress.proofs.Keeps.{decided_search}
-use Rattle.hw_progress.proofs.Stops.{numbers_kept}
-use Rattle.hw_progress.proofs.Turned.{point_table}
-use Rattle.hw_progress.proofs.OneLemma.{gone_lemmas, implied_lemmas, decide_lemmas}
+use Rattle.hw_search_laws.specs.declared.outcome.Turn.{Turn}
+use Rattle.hw_search_laws.specs.declared.outcome.Turn.TheVariants as turns
+use Rattle.hw_search_laws.specs.Branches.{branch_literal}
+use Rattle.hw_search_laws.specs.Searches.{SearchModel, IsSearch, best_cargo, room_in}
+use Rattle.hw_search_laws.specs.Settling.{Implies}
+use Rattle.hw_search_laws.specs.Turns.{cited, cite_conflict, with_lemma, to_level, restart_is_due, gone_back, is_last, DoesDecide, DoesBetter, DoesLemma, TurnDoes}
+use Rattle.hw_search_laws.proofs.Bounds.{few_reasons}
+use Rattle.hw_search_laws.proofs.Choices.{branch_open, IsOpen}
+use Rattle.hw_search_laws.proofs.Holds.{room_fits}
+use Rattle.hw_search_laws.proofs.Keeps.{decided_search}
+use Rattle.hw_search_laws.proofs.Stops.{numbers_kept}
+use Rattle.hw_search_laws.proofs.Turned.{point_table}
+use Rattle.hw_search_laws.proofs.OneLemma.{gone_lemmas, implied_lemmas, decide_lemmas}
 use Rattle.hw_search.specs.Going.{cargo_rank, most_cargo, turns_left}
 
 -- ---- counts of lemmas

@@ -1,17 +1,17 @@
 -- A turn that ended at a conflict without literals.
 use Rattle.std.proofs.Common.{◌≡◌, ℕ, List, [], Option, sym, ◌∙◌, subst}
 use Rattle.hw_model.specs.Problem.{Problem}
-use Rattle.hw_story.specs.declared.event.Why.{Why}
-use Rattle.hw_story.specs.Trails.{reason_clause}
+use Rattle.hw_trail_laws.specs.declared.event.Why.{Why}
+use Rattle.hw_trail_laws.specs.Trails.{reason_clause}
 use Rattle.hw_cert.specs.declared.log.LogStop.{LogStop}
 use Rattle.hw_cert.specs.Logs.{LogModel}
-use Rattle.hw_progress.specs.declared.outcome.Settled.TheVariants.{Conflict}
-use Rattle.hw_progress.specs.declared.outcome.Turn.{Turn}
-use Rattle.hw_progress.specs.declared.outcome.Turn.TheVariants as turns
-use Rattle.hw_progress.specs.Searches.{SearchModel}
-use Rattle.hw_progress.specs.Settling.{Settles}
-use Rattle.hw_progress.specs.Turns.{why_lines, TurnMeets}
-use Rattle.hw_ledger.specs.Handing.{TakesAll, StopsWithin}
+use Rattle.hw_search_laws.specs.declared.outcome.Settled.TheVariants.{Conflict}
+use Rattle.hw_search_laws.specs.declared.outcome.Turn.{Turn}
+use Rattle.hw_search_laws.specs.declared.outcome.Turn.TheVariants as turns
+use Rattle.hw_search_laws.specs.Searches.{SearchModel}
+use Rattle.hw_search_laws.specs.Settling.{Settles}
+use Rattle.hw_search_laws.specs.Turns.{why_lines, TurnMeets}
+use Rattle.hw_search_ledger.specs.Handing.{TakesAll, StopsWithin}
 use Rattle.hw_search.specs.Turning.{TurnBegins, turn_of, halted}
 use Rattle.hw_search.proofs.Answering.{same_mid, end_stops, end_meets}
 

@@ -4,12 +4,12 @@ use Rattle.hw_model.specs.Problem.{Problem}
 use Rattle.hw_cert.specs.declared.log.LogStop.{LogStop}
 use Rattle.hw_cert.specs.declared.log.LogStop.TheVariants as stops
 use Rattle.hw_cert.specs.Logs.{LogModel}
-use Rattle.hw_progress.specs.declared.outcome.Turn.{Turn}
-use Rattle.hw_progress.specs.declared.outcome.Turn.TheVariants as turns
-use Rattle.hw_progress.specs.declared.outcome.Solved.{Solved}
-use Rattle.hw_progress.specs.Proving.{IsEndOf}
-use Rattle.hw_progress.specs.Turns.{is_last}
-use Rattle.hw_ledger.specs.Handing.{StopCause}
+use Rattle.hw_search_laws.specs.declared.outcome.Turn.{Turn}
+use Rattle.hw_search_laws.specs.declared.outcome.Turn.TheVariants as turns
+use Rattle.hw_search_laws.specs.declared.outcome.Solved.{Solved}
+use Rattle.hw_search_laws.specs.Proving.{IsEndOf}
+use Rattle.hw_search_laws.specs.Turns.{is_last}
+use Rattle.hw_search_ledger.specs.Handing.{StopCause}
 use Rattle.hw_search.specs.Turning.{turn_of}
 use Rattle.hw_search.specs.Faults.{TurnKeepsFaults, SolvedKeepsFaults}
 

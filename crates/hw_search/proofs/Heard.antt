@@ -7,29 +7,29 @@ use Rattle.hw_model.specs.Lits.{lit_fits, IsClause}
 use Rattle.hw_model.specs.Narrowing.{truth}
 use Rattle.hw_model.specs.Problem.{shape_of}
 use Rattle.hw_model.specs.Replay.{narrowing}
-use Rattle.hw_tolls.specs.declared.tariff.Tariff.{Tariff}
-use Rattle.hw_tolls.specs.declared.toll.Toll.{Toll}
-use Rattle.hw_tolls.specs.Tolls.{IsToll}
-use Rattle.hw_tolls.specs.Prices.{TariffFits}
-use Rattle.hw_lines.specs.declared.line.Line.TheVariants as lines
-use Rattle.hw_story.specs.declared.event.Why.TheVariants as whys
-use Rattle.hw_story.specs.Trails.{TrailModel, trail_shape, implied}
+use Rattle.hw_price_laws.specs.declared.tariff.Tariff.{Tariff}
+use Rattle.hw_price_laws.specs.declared.toll.Toll.{Toll}
+use Rattle.hw_price_laws.specs.Tolls.{IsToll}
+use Rattle.hw_price_laws.specs.Prices.{TariffFits}
+use Rattle.hw_cert_lines.specs.declared.line.Line.TheVariants as lines
+use Rattle.hw_trail_laws.specs.declared.event.Why.TheVariants as whys
+use Rattle.hw_trail_laws.specs.Trails.{TrailModel, trail_shape, implied}
 use Rattle.hw_cert.specs.declared.log.LogStop.{LogStop}
 use Rattle.hw_cert.specs.Logs.{LogModel, WhereTold, LogTold}
-use Rattle.hw_progress.specs.Prices.{PriceModel, prices_with_toll, with_tariff, DuesAscend, with_bound}
-use Rattle.hw_progress.specs.Searches.{SearchModel, IsSearch, LogFits, PricesShow, room_in}
-use Rattle.hw_progress.specs.Advised.{Heeds, with_priced, HeedWrites}
-use Rattle.hw_progress.proofs.Bounds.{few_numbers}
-use Rattle.hw_progress.proofs.Priced.{priced, priced_good, priced_search}
-use Rattle.hw_progress.proofs.Tolled.{toll, tariff, toll_prices, tariff_prices, price_search, bound}
+use Rattle.hw_search_laws.specs.Prices.{PriceModel, prices_with_toll, with_tariff, DuesAscend, with_bound}
+use Rattle.hw_search_laws.specs.Searches.{SearchModel, IsSearch, LogFits, PricesShow, room_in}
+use Rattle.hw_search_laws.specs.Advised.{Heeds, with_priced, HeedWrites}
+use Rattle.hw_search_laws.proofs.Bounds.{few_numbers}
+use Rattle.hw_search_laws.proofs.Priced.{priced, priced_good, priced_search}
+use Rattle.hw_search_laws.proofs.Tolled.{toll, tariff, toll_prices, tariff_prices, price_search, bound}
 use Rattle.hw_store.specs.declared.store.Stored.{Stored}
 use Rattle.hw_search.specs.Engines.{EngineModel, KeepsEngine}
-use Rattle.hw_ledger.specs.Handing.{TakesAll, StopsWithin}
+use Rattle.hw_search_ledger.specs.Handing.{TakesAll, StopsWithin}
 use Rattle.hw_search.specs.Pricing.{with_other_prices, HeedStops, IsBelow, ShowsBound, TellsBound}
-use Rattle.hw_ledger.specs.Ledgers.{LedgerModel}
+use Rattle.hw_search_ledger.specs.Ledgers.{LedgerModel}
 use Rattle.hw_search.proofs.Advice.{prices_heeded, priced_heeded, line_stops, one_writes}
-use Rattle.hw_sources.specs.Speaking.{SpeakersModel}
-use Rattle.hw_ledger.proofs.Handed.{grown_with, grows_by}
+use Rattle.hw_search_sources.specs.Speaking.{SpeakersModel}
+use Rattle.hw_search_ledger.proofs.Handed.{grown_with, grows_by}
 
 -- ---- other prices
 

@@ -14,26 +14,26 @@ use Rattle.hw_model.specs.Refuting.{IsSourceOf}
 use Rattle.hw_model.specs.Narrowing.{truth}
 use Rattle.hw_model.specs.Replay.{narrowing}
 use Rattle.hw_model.specs.Rooms.{RoomModel, RoomFits}
-use Rattle.hw_laws.proofs.Denials.{lit_of}
+use Rattle.hw_model_laws.proofs.Denials.{lit_of}
 use Rattle.hw_store.specs.declared.store.Stored.{Stored}
-use Rattle.hw_story.specs.declared.event.Event.{Event}
-use Rattle.hw_story.specs.declared.event.Why.{Why}
-use Rattle.hw_story.specs.declared.event.Why.TheVariants as whys
-use Rattle.hw_story.specs.Trails.{TrailModel, trail_shape, reason_clause, no_events, implied, most_events}
-use Rattle.hw_story.proofs.Kept.{more_room}
-use Rattle.hw_story.proofs.Many.{few_events}
-use Rattle.hw_progress.specs.Prices.{PriceModel, unpriced_model}
-use Rattle.hw_progress.specs.Searches.{SearchModel, new_search, IsSearch, IsReason, HasLine, room_in, best_cargo}
-use Rattle.hw_progress.specs.declared.outcome.Branching.{Branching}
-use Rattle.hw_progress.specs.Starting.{EachSourceOnce}
-use Rattle.hw_progress.specs.Settling.{with_events}
-use Rattle.hw_progress.specs.Advised.{with_priced}
-use Rattle.hw_progress.proofs.Holds.{room_fits}
-use Rattle.hw_progress.proofs.Keeps.{new_kept, implied_search}
+use Rattle.hw_trail_laws.specs.declared.event.Event.{Event}
+use Rattle.hw_trail_laws.specs.declared.event.Why.{Why}
+use Rattle.hw_trail_laws.specs.declared.event.Why.TheVariants as whys
+use Rattle.hw_trail_laws.specs.Trails.{TrailModel, trail_shape, reason_clause, no_events, implied, most_events}
+use Rattle.hw_trail_laws.proofs.Kept.{more_room}
+use Rattle.hw_trail_laws.proofs.Many.{few_events}
+use Rattle.hw_search_laws.specs.Prices.{PriceModel, unpriced_model}
+use Rattle.hw_search_laws.specs.Searches.{SearchModel, new_search, IsSearch, IsReason, HasLine, room_in, best_cargo}
+use Rattle.hw_search_laws.specs.declared.outcome.Branching.{Branching}
+use Rattle.hw_search_laws.specs.Starting.{EachSourceOnce}
+use Rattle.hw_search_laws.specs.Settling.{with_events}
+use Rattle.hw_search_laws.specs.Advised.{with_priced}
+use Rattle.hw_search_laws.proofs.Holds.{room_fits}
+use Rattle.hw_search_laws.proofs.Keeps.{new_kept, implied_search}
 use Rattle.hw_search.specs.Engines.{EngineModel, KeepsEngine, QuietUnmarked}
-use Rattle.hw_ledger.specs.Ledgers.{LedgerModel}
-use Rattle.hw_sources.specs.Marks.{is_place_marked, MarksPlaces}
-use Rattle.hw_sources.specs.Speaking.{SpeakersModel, speakers_of, TellsSpeakers}
+use Rattle.hw_search_ledger.specs.Ledgers.{LedgerModel}
+use Rattle.hw_search_sources.specs.Marks.{is_place_marked, MarksPlaces}
+use Rattle.hw_search_sources.specs.Speaking.{SpeakersModel, speakers_of, TellsSpeakers}
 use Rattle.hw_search.proofs.Levels.{levels_implied}
 use Rattle.hw_search.proofs.Markings.{quiet_cut, quiet_all}
 

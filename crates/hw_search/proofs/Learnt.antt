@@ -3,31 +3,31 @@ use Rattle.std.proofs.Common.{◌≡◌, ℕ, ◌+◌, ◌^◌, ◌<◌, ◌≤�
 use Rattle.std.specs.Prelude.{Result, Ok, Err, IfSome}
 use Rattle.hw_model.specs.declared.lit.Lit.{Lit}
 use Rattle.hw_model.specs.Lits.{IsLitOf}
-use Rattle.hw_story.specs.declared.event.Why.{Why}
-use Rattle.hw_story.specs.declared.event.Why.TheVariants as whys
-use Rattle.hw_story.specs.Trails.{TrailModel, back_to}
+use Rattle.hw_trail_laws.specs.declared.event.Why.{Why}
+use Rattle.hw_trail_laws.specs.declared.event.Why.TheVariants as whys
+use Rattle.hw_trail_laws.specs.Trails.{TrailModel, back_to}
 use Rattle.hw_cert.specs.declared.log.LogStop.{LogStop}
 use Rattle.hw_cert.specs.Logs.{LogModel, IsWhole}
 use Rattle.hw_learn.specs.declared.learning.Learnt.{Learnt}
 use Rattle.hw_store.specs.declared.store.Stored.{Stored}
-use Rattle.hw_progress.specs.declared.outcome.Settled.TheVariants.{Conflict}
-use Rattle.hw_progress.specs.declared.outcome.Turn.{Turn}
-use Rattle.hw_progress.specs.declared.outcome.Turn.TheVariants as turns
-use Rattle.hw_progress.specs.Laws.{lemma_lines}
-use Rattle.hw_progress.specs.Searches.{SearchModel, IsSearch, IsReason, why_at}
-use Rattle.hw_progress.specs.Settling.{Settles}
-use Rattle.hw_progress.specs.Turns.{TurnMeets}
+use Rattle.hw_search_laws.specs.declared.outcome.Settled.TheVariants.{Conflict}
+use Rattle.hw_search_laws.specs.declared.outcome.Turn.{Turn}
+use Rattle.hw_search_laws.specs.declared.outcome.Turn.TheVariants as turns
+use Rattle.hw_search_laws.specs.Laws.{lemma_lines}
+use Rattle.hw_search_laws.specs.Searches.{SearchModel, IsSearch, IsReason, why_at}
+use Rattle.hw_search_laws.specs.Settling.{Settles}
+use Rattle.hw_search_laws.specs.Turns.{TurnMeets}
 use Rattle.hw_search.specs.Engines.{EngineModel}
-use Rattle.hw_ledger.specs.GoingBack.{Tidies, TidiesBy}
-use Rattle.hw_branching.specs.Restarts.{NextLevel}
-use Rattle.hw_ledger.specs.Handing.{TakesAll}
-use Rattle.hw_ledger.specs.Ledgers.{LedgerModel, with_events_left}
-use Rattle.hw_ledger.specs.Naming.{EachOfProblem, HandsLearnt, IsOfProblem, WritesLearnt, own_after, taught, Taught}
+use Rattle.hw_search_ledger.specs.GoingBack.{Tidies, TidiesBy}
+use Rattle.hw_search_sources.specs.Restarts.{NextLevel}
+use Rattle.hw_search_ledger.specs.Handing.{TakesAll}
+use Rattle.hw_search_ledger.specs.Ledgers.{LedgerModel, with_events_left}
+use Rattle.hw_search_ledger.specs.Naming.{EachOfProblem, HandsLearnt, IsOfProblem, WritesLearnt, own_after, taught, Taught}
 use Rattle.hw_search.specs.Turning.{Teaches, TurnsFrom, turn_of, halted}
-use Rattle.hw_ledger.specs.declared.writing.WrittenLemma.{WrittenLemma}
+use Rattle.hw_search_ledger.specs.declared.writing.WrittenLemma.{WrittenLemma}
 use Rattle.hw_search.proofs.Answering.{same_mid}
 use Rattle.hw_search.proofs.Ending.{turned}
-use Rattle.hw_ledger.proofs.Handed.{all_whole}
+use Rattle.hw_search_ledger.proofs.Handed.{all_whole}
 use Rattle.hw_search.proofs.Lessons.{places_inside, numbers_left, level_below, lits_here, numbers_below, no_lits}
 use Rattle.hw_search.proofs.Taught.{WentBack, analysed, went, went_search, stopped_past, went_meets, stop_meets_past}
 use Rattle.hw_search.proofs.Teaching.{ended, lemma_stops, last_meets}

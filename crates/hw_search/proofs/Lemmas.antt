@@ -11,10 +11,10 @@ use Rattle.hw_store.specs.declared.store.Held.TheVariants as helds
 use Rattle.hw_store.specs.declared.store.Stored.{Stored}
 use Rattle.hw_lits.specs.Active.{IsActive}
 use Rattle.hw_store.specs.Stores.{FindsStored, IsNotHeld}
-use Rattle.hw_story.specs.declared.event.Why.{Why}
-use Rattle.hw_story.specs.declared.event.Why.TheVariants as whys
-use Rattle.hw_story.specs.Trails.{reason_clause}
-use Rattle.hw_progress.specs.Searches.{SearchModel, IsSearch, IsReason, HasLine}
+use Rattle.hw_trail_laws.specs.declared.event.Why.{Why}
+use Rattle.hw_trail_laws.specs.declared.event.Why.TheVariants as whys
+use Rattle.hw_trail_laws.specs.Trails.{reason_clause}
+use Rattle.hw_search_laws.specs.Searches.{SearchModel, IsSearch, IsReason, HasLine}
 use Rattle.hw_search.specs.Engines.{EngineModel}
 use Rattle.hw_search.specs.Askings.{IsHeldWhy}
 

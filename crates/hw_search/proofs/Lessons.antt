@@ -11,23 +11,23 @@ use Rattle.hw_model.specs.Problem.{Problem}
 use Rattle.hw_model.specs.Refuting.{IsSourceOf}
 use Rattle.hw_model.specs.Timetables.{cargo}
 use Rattle.hw_lits.proofs.Forms.{clause_lits}
-use Rattle.hw_story.specs.declared.event.Why.{Why}
-use Rattle.hw_story.specs.Trails.{trail_shape, reason_clause, most_events, back_to, room_of}
-use Rattle.hw_story.specs.Learning.{reason_at, top_level, Learns}
-use Rattle.hw_story.proofs.Quiets.{back_below}
+use Rattle.hw_trail_laws.specs.declared.event.Why.{Why}
+use Rattle.hw_trail_laws.specs.Trails.{trail_shape, reason_clause, most_events, back_to, room_of}
+use Rattle.hw_trail_laws.specs.Learning.{reason_at, top_level, Learns}
+use Rattle.hw_trail_laws.proofs.Quiets.{back_below}
 use Rattle.hw_store.specs.declared.store.Stored.{Stored}
-use Rattle.hw_progress.specs.Searches.{SearchModel, IsSearch, room_in, best_cargo}
-use Rattle.hw_progress.specs.Settling.{IsConflict}
-use Rattle.hw_progress.specs.Starting.{EachSourceOnce}
-use Rattle.hw_progress.proofs.Bounds.{few_numbers}
-use Rattle.hw_progress.proofs.Citing.{reason_why, why_inside}
-use Rattle.hw_progress.proofs.Stops.{numbers_kept}
-use Rattle.hw_progress.proofs.Turned.{few_for}
+use Rattle.hw_search_laws.specs.Searches.{SearchModel, IsSearch, room_in, best_cargo}
+use Rattle.hw_search_laws.specs.Settling.{IsConflict}
+use Rattle.hw_search_laws.specs.Starting.{EachSourceOnce}
+use Rattle.hw_search_laws.proofs.Bounds.{few_numbers}
+use Rattle.hw_search_laws.proofs.Citing.{reason_why, why_inside}
+use Rattle.hw_search_laws.proofs.Stops.{numbers_kept}
+use Rattle.hw_search_laws.proofs.Turned.{few_for}
 use Rattle.hw_search.specs.Engines.{EngineModel, KeepsEngine, QuietLevels, QuietUnmarked}
-use Rattle.hw_sources.specs.Marks.{is_place_marked}
-use Rattle.hw_sources.specs.Speaking.{SpeakersModel, TellsSpeakers}
-use Rattle.hw_ledger.specs.Naming.{taught, Taught}
-use Rattle.hw_branching.specs.Restarts.{due, NextLevel}
+use Rattle.hw_search_sources.specs.Marks.{is_place_marked}
+use Rattle.hw_search_sources.specs.Speaking.{SpeakersModel, TellsSpeakers}
+use Rattle.hw_search_ledger.specs.Naming.{taught, Taught}
+use Rattle.hw_search_sources.specs.Restarts.{due, NextLevel}
 use Rattle.hw_search.proofs.Levels.{levels_back, quiet_gone, at_get}
 use Rattle.hw_search.specs.Turning.{Teaches}
 

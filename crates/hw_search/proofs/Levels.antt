@@ -8,13 +8,13 @@ use Rattle.hw_model.specs.declared.source.Source.TheVariants.{Goal}
 use Rattle.hw_model.specs.Problem.{Problem}
 use Rattle.hw_model.specs.Quiet.{QuietSource}
 use Rattle.hw_model.specs.Refuting.{IsSourceOf}
-use Rattle.hw_laws.proofs.Quiets.{best_quiet}
-use Rattle.hw_story.specs.declared.event.Why.{Why}
-use Rattle.hw_story.specs.Trails.{TrailModel, IsTrail, room_of, back_to, implied, decided}
-use Rattle.hw_story.proofs.Kept.{back_back, back_more, back_same}
-use Rattle.hw_progress.proofs.Keeps.{never}
+use Rattle.hw_model_laws.proofs.Quiets.{best_quiet}
+use Rattle.hw_trail_laws.specs.declared.event.Why.{Why}
+use Rattle.hw_trail_laws.specs.Trails.{TrailModel, IsTrail, room_of, back_to, implied, decided}
+use Rattle.hw_trail_laws.proofs.Kept.{back_back, back_more, back_same}
+use Rattle.hw_search_laws.proofs.Keeps.{never}
 use Rattle.hw_search.specs.Engines.{QuietLevels, QuietUnmarked}
-use Rattle.hw_sources.specs.Marks.{is_place_marked}
+use Rattle.hw_search_sources.specs.Marks.{is_place_marked}
 use Rattle.hw_search.proofs.Markings.{of_all}
 
 pub levels_implied : (f : Problem) (best : Option ℕ) (t : TrailModel) (lit : Lit) (why : Why) → QuietLevels f best t → QuietLevels f best (implied t lit why)

@@ -15,11 +15,11 @@ use Rattle.hw_model.specs.Problem.{Problem}
 use Rattle.hw_model.specs.Quiet.{names_lit}
 use Rattle.hw_model.specs.Refuting.{IsSourceOf}
 use Rattle.hw_model.specs.Rooms.{RoomModel, RoomFits}
-use Rattle.hw_laws.proofs.Quiets.{unspoken}
-use Rattle.hw_progress.proofs.Keeps.{never}
+use Rattle.hw_model_laws.proofs.Quiets.{unspoken}
+use Rattle.hw_search_laws.proofs.Keeps.{never}
 use Rattle.hw_search.specs.Engines.{QuietUnmarked}
-use Rattle.hw_sources.specs.Marks.{is_place_marked, MarksPlaces}
-use Rattle.hw_sources.specs.Speaking.{SpeakersModel, speakers_of, TellsSpeakers}
+use Rattle.hw_search_sources.specs.Marks.{is_place_marked, MarksPlaces}
+use Rattle.hw_search_sources.specs.Speaking.{SpeakersModel, speakers_of, TellsSpeakers}
 
 -- a whole slice written through its vector is what the vector holds
 pub written_whole : {A : Type 0} (n : ℕ) (new old : List A) → n ≡ length new → take n (new ++ drop (length new) old) ≡ new

@@ -1,23 +1,23 @@
 -- What an offered timetable meets.
 use Rattle.std.proofs.Common.{◌≡◌, ℕ, zero, suc, ◌≤◌, true, List, [], ◌∷◌, ◌++◌, Some, refl, sym, ap, ◌∙◌, subst, arith, append-nil}
 use Rattle.hw_model.specs.Timetables.{Permits}
-use Rattle.hw_lines.specs.declared.line.Line.{Line}
-use Rattle.hw_lines.specs.declared.line.Line.TheVariants as lines
-use Rattle.hw_lines.specs.Valid.{ValidAfter}
-use Rattle.hw_lines.specs.Lemmas.{LeanAfter}
+use Rattle.hw_cert_lines.specs.declared.line.Line.{Line}
+use Rattle.hw_cert_lines.specs.declared.line.Line.TheVariants as lines
+use Rattle.hw_cert_lines.specs.Valid.{ValidAfter}
+use Rattle.hw_cert_lines.specs.Lemmas.{LeanAfter}
 use Rattle.hw_cert.specs.declared.log.LogStop.{LogStop}
 use Rattle.hw_cert.specs.declared.log.LogStop.TheVariants as stops
 use Rattle.hw_cert.specs.Logs.{LogTold, LogModel, WhereTold, IsBegunLine}
-use Rattle.hw_progress.specs.declared.outcome.Turn.{Turn}
-use Rattle.hw_progress.specs.declared.outcome.Turn.TheVariants as turns
-use Rattle.hw_progress.specs.Searches.{SearchModel, IsSearch, FitsOpen, LiveKept, LogFits}
-use Rattle.hw_progress.specs.Turns.{WritesWell, FailsAt}
-use Rattle.hw_progress.specs.Offers.{IsBetter, OfferMeets}
-use Rattle.hw_progress.proofs.Told.{grown}
-use Rattle.hw_progress.proofs.Turned.{table}
-use Rattle.hw_ledger.specs.Handing.{TakesAll, StopsAfter, StopsWithin}
+use Rattle.hw_search_laws.specs.declared.outcome.Turn.{Turn}
+use Rattle.hw_search_laws.specs.declared.outcome.Turn.TheVariants as turns
+use Rattle.hw_search_laws.specs.Searches.{SearchModel, IsSearch, FitsOpen, LiveKept, LogFits}
+use Rattle.hw_search_laws.specs.Turns.{WritesWell, FailsAt}
+use Rattle.hw_search_laws.specs.Offers.{IsBetter, OfferMeets}
+use Rattle.hw_search_laws.proofs.Told.{grown}
+use Rattle.hw_search_laws.proofs.Turned.{table}
+use Rattle.hw_search_ledger.specs.Handing.{TakesAll, StopsAfter, StopsWithin}
 use Rattle.hw_search.specs.Turning.{turn_of}
-use Rattle.hw_ledger.proofs.Handed.{grown_with, grows_by}
+use Rattle.hw_search_ledger.proofs.Handed.{grown_with, grows_by}
 use Rattle.hw_search.proofs.Answering.{one_well}
 
 -- the same offer in the words of a call

@@ -2,11 +2,11 @@
 use Rattle.std.proofs.Common.{◌≡◌, true, List, [], ◌∷◌, ◌++◌, Option, None, All, fold, refl, sym, ◌∙◌}
 use Rattle.std.proofs.lemmas.List.Elements.{All-head, All-tail}
 use Rattle.std.proofs.lemmas.List.Sums.{fold-append}
-use Rattle.hw_lines.specs.declared.line.Line.{Line}
-use Rattle.hw_lines.specs.declared.line.Line.TheVariants as lines
-use Rattle.hw_lines.specs.Tolled.{is_plain, tariff_after, tariff_of}
-use Rattle.hw_tolls.specs.declared.tariff.Tariff.{Tariff}
-use Rattle.hw_progress.proofs.Holds.{plain_stays}
+use Rattle.hw_cert_lines.specs.declared.line.Line.{Line}
+use Rattle.hw_cert_lines.specs.declared.line.Line.TheVariants as lines
+use Rattle.hw_cert_lines.specs.Tolled.{is_plain, tariff_after, tariff_of}
+use Rattle.hw_price_laws.specs.declared.tariff.Tariff.{Tariff}
+use Rattle.hw_search_laws.proofs.Holds.{plain_stays}
 
 -- a line that leaves no tariff in force found none
 one_before : (last : Option Tariff) (line : Line) → tariff_after last line ≡ None → last ≡ None

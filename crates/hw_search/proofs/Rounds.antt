@@ -4,12 +4,12 @@ use Rattle.std.specs.Prelude.{Contains}
 use Rattle.std.proofs.lemmas.Bool.{cases_lt}
 use Rattle.std.proofs.lemmas.Option.{slice_get-get_or}
 use Rattle.hw_model.specs.declared.source.Source.{Source}
-use Rattle.hw_story.specs.Trails.{most_events}
-use Rattle.hw_progress.specs.Searches.{SearchModel}
+use Rattle.hw_trail_laws.specs.Trails.{most_events}
+use Rattle.hw_search_laws.specs.Searches.{SearchModel}
 use Rattle.hw_search.specs.Askings.{SourcesQuiet, Gains}
 use Rattle.hw_search.specs.Engines.{EngineModel, KeepsEngine}
-use Rattle.hw_sources.specs.Marks.{ClearWithin}
-use Rattle.hw_sources.specs.Speaking.{SpeakersModel}
+use Rattle.hw_search_sources.specs.Marks.{ClearWithin}
+use Rattle.hw_search_sources.specs.Speaking.{SpeakersModel}
 use Rattle.hw_search.proofs.Steps.{left_less}
 
 pub clear_joined : (marks : List Bool) (from upto : ℕ) → ClearWithin marks 0 from → ClearWithin marks from upto → ClearWithin marks 0 upto

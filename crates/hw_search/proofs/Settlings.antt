@@ -1,9 +1,9 @@
 -- How settling ends.
 use Rattle.std.proofs.Common.{◌≡◌, Option, Some, None, Ok, sym, subst}
-use Rattle.hw_story.specs.declared.event.Why.{Why}
-use Rattle.hw_progress.specs.declared.outcome.Settled.TheVariants.{Quiet, Conflict}
-use Rattle.hw_progress.specs.Searches.{SearchModel, IsSearch}
-use Rattle.hw_progress.specs.Settling.{Implies, Settles}
+use Rattle.hw_trail_laws.specs.declared.event.Why.{Why}
+use Rattle.hw_search_laws.specs.declared.outcome.Settled.TheVariants.{Quiet, Conflict}
+use Rattle.hw_search_laws.specs.Searches.{SearchModel, IsSearch}
+use Rattle.hw_search_laws.specs.Settling.{Implies, Settles}
 use Rattle.hw_search.specs.Askings.{Goes, AskingFails, LemmasQuiet, SourcesQuiet, StoreMeets}
 use Rattle.hw_search.proofs.Steps.{implies_more}
 

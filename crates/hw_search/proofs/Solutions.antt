@@ -6,31 +6,31 @@ use Rattle.hw_model.specs.Limits.{IsFlat}
 use Rattle.hw_model.specs.Timetables.{Permits, cargo}
 use Rattle.hw_model.specs.Rooms.{room_count}
 use Rattle.hw_desk.specs.State.{Rose}
-use Rattle.hw_lines.specs.declared.line.Line.{Line}
-use Rattle.hw_lines.specs.Tolled.{is_plain}
-use Rattle.hw_lines.specs.Lines.{last_table, is_closed, ends}
-use Rattle.hw_lines.specs.Valid.{LineFits}
-use Rattle.hw_lines.specs.Lemmas.{lemmas_of}
-use Rattle.hw_lines.proofs.Closed.{closed_from}
+use Rattle.hw_cert_lines.specs.declared.line.Line.{Line}
+use Rattle.hw_cert_lines.specs.Tolled.{is_plain}
+use Rattle.hw_cert_lines.specs.Lines.{last_table, is_closed, ends}
+use Rattle.hw_cert_lines.specs.Valid.{LineFits}
+use Rattle.hw_cert_lines.specs.Lemmas.{lemmas_of}
+use Rattle.hw_cert_lines.proofs.Closed.{closed_from}
 use Rattle.hw_cert.specs.Logs.{LogTold, LogModel, WhereTold, Grows, IsEmpty, IsWhole}
-use Rattle.hw_progress.specs.declared.outcome.Branching.TheVariants.{Greatest}
-use Rattle.hw_progress.specs.declared.outcome.Turn.{Turn}
-use Rattle.hw_progress.specs.declared.outcome.Turn.TheVariants as turns
-use Rattle.hw_progress.specs.declared.outcome.Solved.{Solved}
-use Rattle.hw_progress.specs.declared.outcome.Solved.TheVariants as answers
-use Rattle.hw_progress.specs.Living.{FewLiveFrom}
-use Rattle.hw_progress.specs.Proving.{IsEndOf}
-use Rattle.hw_progress.specs.Searches.{SearchModel, IsSearch, LogFits, new_search}
-use Rattle.hw_progress.specs.Turns.{TurnMeets, TurnWrites, WritesWell, FitsAfter, FailsNext, FailsAt, is_last}
-use Rattle.hw_progress.specs.Solving.{SolveMeets, SolveWrites, AnswerTells, AnswerMeans, is_proved, may_be_spent}
-use Rattle.hw_progress.proofs.Bounds.{few_stored}
-use Rattle.hw_progress.proofs.Heeded.{valid_append, lean_append}
-use Rattle.hw_progress.proofs.Living.{throughout, none_live}
-use Rattle.hw_progress.proofs.OneLemma.{few_lemmas}
-use Rattle.hw_progress.proofs.Told.{told_same, told_on, told_and, where_and, where_so, where_grown}
-use Rattle.hw_progress.proofs.Trues.{ended as ended_means}
-use Rattle.hw_progress.proofs.Turned.{starts}
-use Rattle.hw_progress.proofs.Provings.{rose_on}
+use Rattle.hw_search_laws.specs.declared.outcome.Branching.TheVariants.{Greatest}
+use Rattle.hw_search_laws.specs.declared.outcome.Turn.{Turn}
+use Rattle.hw_search_laws.specs.declared.outcome.Turn.TheVariants as turns
+use Rattle.hw_search_laws.specs.declared.outcome.Solved.{Solved}
+use Rattle.hw_search_laws.specs.declared.outcome.Solved.TheVariants as answers
+use Rattle.hw_search_laws.specs.Living.{FewLiveFrom}
+use Rattle.hw_search_laws.specs.Proving.{IsEndOf}
+use Rattle.hw_search_laws.specs.Searches.{SearchModel, IsSearch, LogFits, new_search}
+use Rattle.hw_search_laws.specs.Turns.{TurnMeets, TurnWrites, WritesWell, FitsAfter, FailsNext, FailsAt, is_last}
+use Rattle.hw_search_laws.specs.Solving.{SolveMeets, SolveWrites, AnswerTells, AnswerMeans, is_proved, may_be_spent}
+use Rattle.hw_search_laws.proofs.Bounds.{few_stored}
+use Rattle.hw_search_laws.proofs.Heeded.{valid_append, lean_append}
+use Rattle.hw_search_laws.proofs.Living.{throughout, none_live}
+use Rattle.hw_search_laws.proofs.OneLemma.{few_lemmas}
+use Rattle.hw_search_laws.proofs.Told.{told_same, told_on, told_and, where_and, where_so, where_grown}
+use Rattle.hw_search_laws.proofs.Trues.{ended as ended_means}
+use Rattle.hw_search_laws.proofs.Turned.{starts}
+use Rattle.hw_search_laws.proofs.Provings.{rose_on}
 use Rattle.hw_search.specs.Going.{WellWritten, SoFar, Going, Closing}
 use Rattle.hw_search.proofs.Plain.{plain_tariff}
 

@@ -12,15 +12,15 @@ use Rattle.hw_model.specs.Lits.{lit_fits, IsClause}
 use Rattle.hw_model.specs.Narrowing.{truth}
 use Rattle.hw_model.specs.Problem.{Problem, shape_of}
 use Rattle.hw_model.specs.Replay.{narrowing}
-use Rattle.hw_story.specs.declared.event.Event.{Event}
-use Rattle.hw_story.specs.declared.event.Why.{Why}
-use Rattle.hw_story.specs.Trails.{trail_shape, reason_clause, most_events}
-use Rattle.hw_story.specs.Walks.{InClause}
-use Rattle.hw_story.proofs.Denials.{in_fits}
-use Rattle.hw_progress.specs.Searches.{SearchModel, IsSearch, IsReason, HasLine, room_in}
-use Rattle.hw_progress.specs.Settling.{Implies, with_events}
-use Rattle.hw_progress.proofs.Holds.{problem_clause}
-use Rattle.hw_progress.proofs.Keeps.{implied_search}
+use Rattle.hw_trail_laws.specs.declared.event.Event.{Event}
+use Rattle.hw_trail_laws.specs.declared.event.Why.{Why}
+use Rattle.hw_trail_laws.specs.Trails.{trail_shape, reason_clause, most_events}
+use Rattle.hw_trail_laws.specs.Walks.{InClause}
+use Rattle.hw_trail_laws.proofs.Denials.{in_fits}
+use Rattle.hw_search_laws.specs.Searches.{SearchModel, IsSearch, IsReason, HasLine, room_in}
+use Rattle.hw_search_laws.specs.Settling.{Implies, with_events}
+use Rattle.hw_search_laws.proofs.Holds.{problem_clause}
+use Rattle.hw_search_laws.proofs.Keeps.{implied_search}
 use Rattle.hw_search.proofs.Kept.{few_in}
 use Rattle.hw_search.specs.Askings.{Goes, Gains, AskingFails, AskMeets}
 

@@ -6,31 +6,31 @@ use Rattle.std.proofs.lemmas.List.Elements.{All-head, All-tail, All-nil, All-pus
 use Rattle.hw_model.specs.declared.lit.Lit.{Lit}
 use Rattle.hw_model.specs.declared.source.Source.{Source}
 use Rattle.hw_model.specs.Problem.{Problem}
-use Rattle.hw_lines.specs.declared.line.Line.{Line}
-use Rattle.hw_lines.specs.declared.line.Line.TheVariants as lines
-use Rattle.hw_lines.specs.Lines.{source_line, clause_count, clause_of as clause_in, table_after, last_table, is_closed, is_end}
-use Rattle.hw_lines.specs.Tolled.{is_plain, tariff_of}
-use Rattle.hw_lines.specs.Valid.{LineFits, ValidAfter, ValidFrom}
-use Rattle.hw_lines.specs.Lemmas.{lemma_of, lemmas_of, LeanAfter, LeanFrom}
-use Rattle.hw_lines.proofs.Pushed.{last_push}
-use Rattle.hw_story.specs.declared.event.Why.{Why}
-use Rattle.hw_story.specs.declared.event.Why.TheVariants as whys
-use Rattle.hw_story.specs.Trails.{most_events}
+use Rattle.hw_cert_lines.specs.declared.line.Line.{Line}
+use Rattle.hw_cert_lines.specs.declared.line.Line.TheVariants as lines
+use Rattle.hw_cert_lines.specs.Lines.{source_line, clause_count, clause_of as clause_in, table_after, last_table, is_closed, is_end}
+use Rattle.hw_cert_lines.specs.Tolled.{is_plain, tariff_of}
+use Rattle.hw_cert_lines.specs.Valid.{LineFits, ValidAfter, ValidFrom}
+use Rattle.hw_cert_lines.specs.Lemmas.{lemma_of, lemmas_of, LeanAfter, LeanFrom}
+use Rattle.hw_cert_lines.proofs.Pushed.{last_push}
+use Rattle.hw_trail_laws.specs.declared.event.Why.{Why}
+use Rattle.hw_trail_laws.specs.declared.event.Why.TheVariants as whys
+use Rattle.hw_trail_laws.specs.Trails.{most_events}
 use Rattle.hw_cert.specs.declared.log.LogStop.{LogStop}
 use Rattle.hw_cert.specs.declared.log.LogStop.TheVariants as stops
 use Rattle.hw_cert.specs.Logs.{LogTold, LogModel, Grows, IsBegunLine}
 use Rattle.hw_store.specs.declared.store.Stored.{Stored}
-use Rattle.hw_progress.specs.declared.outcome.Turn.{Turn}
-use Rattle.hw_progress.specs.declared.outcome.Turn.TheVariants as turns
-use Rattle.hw_progress.specs.Searches.{SearchModel, IsSearch, LogFits, why_at, written_at}
-use Rattle.hw_progress.specs.Living.{FewLiveFrom}
-use Rattle.hw_progress.specs.Turns.{why_lines, Cited, cite_by, cite, cited, cite_conflict, lines_of_turn, Plans, WritesPart, FailsPart, FailsNext, TurnStops, WritesWell, TurnWrites, TurnMeets}
-use Rattle.hw_progress.proofs.Lines.{source_is, source_no_lemma, same_lemmas}
-use Rattle.hw_progress.proofs.Parts.{part_well}
-use Rattle.hw_progress.proofs.Told.{grown}
-use Rattle.hw_ledger.specs.Handing.{StopCause, StopsAfter}
+use Rattle.hw_search_laws.specs.declared.outcome.Turn.{Turn}
+use Rattle.hw_search_laws.specs.declared.outcome.Turn.TheVariants as turns
+use Rattle.hw_search_laws.specs.Searches.{SearchModel, IsSearch, LogFits, why_at, written_at}
+use Rattle.hw_search_laws.specs.Living.{FewLiveFrom}
+use Rattle.hw_search_laws.specs.Turns.{why_lines, Cited, cite_by, cite, cited, cite_conflict, lines_of_turn, Plans, WritesPart, FailsPart, FailsNext, TurnStops, WritesWell, TurnWrites, TurnMeets}
+use Rattle.hw_search_laws.proofs.Lines.{source_is, source_no_lemma, same_lemmas}
+use Rattle.hw_search_laws.proofs.Parts.{part_well}
+use Rattle.hw_search_laws.proofs.Told.{grown}
+use Rattle.hw_search_ledger.specs.Handing.{StopCause, StopsAfter}
 use Rattle.hw_search.specs.Turning.{TurnBegins, turn_of}
-use Rattle.hw_ledger.proofs.Handed.{grown_with, take_front, get_front}
+use Rattle.hw_search_ledger.proofs.Handed.{grown_with, take_front, get_front}
 use Rattle.hw_search.proofs.Plain.{tariff_before}
 
 -- ---- lines that give reasons

@@ -2,27 +2,27 @@
 use Rattle.std.proofs.Common.{◌≡◌, ◌⊎◌, ℕ, ◌+◌, ◌≤◌, Bool, true, false, cond, List, [], ◌∷◌, ◌++◌, Option, length, take, sym, ap, ◌∙◌, subst, arith, inl, inr, append-nil, append_assoc}
 use Rattle.std.specs.Prelude.{Contains}
 use Rattle.hw_model.specs.declared.lit.Lit.{Lit}
-use Rattle.hw_lines.specs.declared.line.Line.{Line}
-use Rattle.hw_story.specs.declared.event.Why.{Why}
-use Rattle.hw_story.specs.Trails.{TrailModel, reason_clause, back_to}
+use Rattle.hw_cert_lines.specs.declared.line.Line.{Line}
+use Rattle.hw_trail_laws.specs.declared.event.Why.{Why}
+use Rattle.hw_trail_laws.specs.Trails.{TrailModel, reason_clause, back_to}
 use Rattle.hw_cert.specs.declared.log.LogStop.{LogStop}
 use Rattle.hw_cert.specs.declared.log.LogStop.TheVariants as stops
 use Rattle.hw_cert.specs.Logs.{LogTold, LogModel, Grows}
 use Rattle.hw_store.specs.declared.store.Stored.{Stored}
-use Rattle.hw_progress.specs.declared.outcome.Settled.TheVariants.{Conflict}
-use Rattle.hw_progress.specs.declared.outcome.Turn.TheVariants as turns
-use Rattle.hw_progress.specs.Searches.{SearchModel, IsSearch, LogFits}
-use Rattle.hw_progress.specs.Settling.{Settles}
-use Rattle.hw_progress.specs.Laws.{lemma_lines}
-use Rattle.hw_progress.specs.Turns.{cited, with_lemma, to_level, gone_back, unkept, deletion, Analysed, IsAdded, TurnMeets}
-use Rattle.hw_progress.proofs.Stops.{numbers_kept, past as gone_keeps}
-use Rattle.hw_ledger.specs.Handing.{TakesAll, StopRemainder, StopsAfter, StopsWithin}
-use Rattle.hw_ledger.specs.Naming.{own_number, taught, Taught}
-use Rattle.hw_ledger.specs.Dropped.{line_numbers_kept, IsLeftOver}
-use Rattle.hw_ledger.specs.GoingBack.{Adds}
-use Rattle.hw_branching.specs.Restarts.{due, NextLevel}
+use Rattle.hw_search_laws.specs.declared.outcome.Settled.TheVariants.{Conflict}
+use Rattle.hw_search_laws.specs.declared.outcome.Turn.TheVariants as turns
+use Rattle.hw_search_laws.specs.Searches.{SearchModel, IsSearch, LogFits}
+use Rattle.hw_search_laws.specs.Settling.{Settles}
+use Rattle.hw_search_laws.specs.Laws.{lemma_lines}
+use Rattle.hw_search_laws.specs.Turns.{cited, with_lemma, to_level, gone_back, unkept, deletion, Analysed, IsAdded, TurnMeets}
+use Rattle.hw_search_laws.proofs.Stops.{numbers_kept, past as gone_keeps}
+use Rattle.hw_search_ledger.specs.Handing.{TakesAll, StopRemainder, StopsAfter, StopsWithin}
+use Rattle.hw_search_ledger.specs.Naming.{own_number, taught, Taught}
+use Rattle.hw_search_ledger.specs.Dropped.{line_numbers_kept, IsLeftOver}
+use Rattle.hw_search_ledger.specs.GoingBack.{Adds}
+use Rattle.hw_search_sources.specs.Restarts.{due, NextLevel}
 use Rattle.hw_search.specs.Turning.{TurnBegins, Teaches, turn_of}
-use Rattle.hw_ledger.proofs.Handed.{grows_on, all_on, take_past, get_past, cause_on}
+use Rattle.hw_search_ledger.proofs.Handed.{grows_on, all_on, take_past, get_past, cause_on}
 use Rattle.hw_search.proofs.Teaching.{gone, past, Known, known, lemma_turned, past_meets}
 use Rattle.hw_search.proofs.Unkept.{DropsRest, drops_unkept}
 

@@ -3,33 +3,33 @@ use Rattle.std.proofs.Common.{◌≡◌, ℕ, ◌+◌, ◌<◌, ◌≤◌, Bool,
 use Rattle.std.proofs.lemmas.List.{length-map, take_all}
 use Rattle.hw_model.specs.declared.lit.Lit.{Lit}
 use Rattle.hw_model.specs.Problem.{Problem}
-use Rattle.hw_lines.specs.declared.line.Line.{Line}
-use Rattle.hw_lines.specs.declared.line.Line.TheVariants as lines
-use Rattle.hw_lines.specs.Lines.{clause_count, last_table, is_closed}
-use Rattle.hw_lines.specs.Lemmas.{lemmas_of}
-use Rattle.hw_lines.proofs.Pushed.{last_push}
-use Rattle.hw_lines.proofs.Live.{lemmas_push}
-use Rattle.hw_verdict.proofs.Numbered.{count_append}
-use Rattle.hw_story.specs.declared.event.Why.{Why}
-use Rattle.hw_story.specs.Trails.{reason_clause, most_events}
+use Rattle.hw_cert_lines.specs.declared.line.Line.{Line}
+use Rattle.hw_cert_lines.specs.declared.line.Line.TheVariants as lines
+use Rattle.hw_cert_lines.specs.Lines.{clause_count, last_table, is_closed}
+use Rattle.hw_cert_lines.specs.Lemmas.{lemmas_of}
+use Rattle.hw_cert_lines.proofs.Pushed.{last_push}
+use Rattle.hw_cert_lines.proofs.Live.{lemmas_push}
+use Rattle.hw_cert_laws.proofs.Numbered.{count_append}
+use Rattle.hw_trail_laws.specs.declared.event.Why.{Why}
+use Rattle.hw_trail_laws.specs.Trails.{reason_clause, most_events}
 use Rattle.hw_cert.specs.declared.log.LogStop.{LogStop}
 use Rattle.hw_cert.specs.Logs.{LogTold, LogModel, WhereTold, Grows}
 use Rattle.hw_store.specs.declared.store.Stored.{Stored}
-use Rattle.hw_progress.specs.declared.outcome.Turn.TheVariants as turns
-use Rattle.hw_progress.specs.Searches.{SearchModel, IsSearch, FitsOpen, LiveKept, LogFits, lemmas_in}
-use Rattle.hw_progress.specs.Laws.{lemma_lines}
-use Rattle.hw_progress.specs.Living.{FewLiveFrom}
-use Rattle.hw_progress.specs.Turns.{Cited, cited, with_lemma, to_level, restart_is_due, gone_back, unkept, deletion, Analysed, IsAdded, Plans, TurnStops, DoesEnd, WritesWell, TurnWrites, TurnMeets}
-use Rattle.hw_progress.proofs.Lines.{lemma_open}
-use Rattle.hw_progress.proofs.Bounds.{few_numbers}
-use Rattle.hw_progress.proofs.Citing.{Citing, Prepared, cites, prepared}
-use Rattle.hw_progress.proofs.Told.{grown}
-use Rattle.hw_progress.proofs.Turned.{few_for, lemma_meets, last}
-use Rattle.hw_progress.proofs.Living.{turn_lives}
-use Rattle.hw_ledger.specs.Handing.{TakesAll, StopCause, StopsAfter, StopsWithin}
-use Rattle.hw_ledger.specs.Naming.{taught}
+use Rattle.hw_search_laws.specs.declared.outcome.Turn.TheVariants as turns
+use Rattle.hw_search_laws.specs.Searches.{SearchModel, IsSearch, FitsOpen, LiveKept, LogFits, lemmas_in}
+use Rattle.hw_search_laws.specs.Laws.{lemma_lines}
+use Rattle.hw_search_laws.specs.Living.{FewLiveFrom}
+use Rattle.hw_search_laws.specs.Turns.{Cited, cited, with_lemma, to_level, restart_is_due, gone_back, unkept, deletion, Analysed, IsAdded, Plans, TurnStops, DoesEnd, WritesWell, TurnWrites, TurnMeets}
+use Rattle.hw_search_laws.proofs.Lines.{lemma_open}
+use Rattle.hw_search_laws.proofs.Bounds.{few_numbers}
+use Rattle.hw_search_laws.proofs.Citing.{Citing, Prepared, cites, prepared}
+use Rattle.hw_search_laws.proofs.Told.{grown}
+use Rattle.hw_search_laws.proofs.Turned.{few_for, lemma_meets, last}
+use Rattle.hw_search_laws.proofs.Living.{turn_lives}
+use Rattle.hw_search_ledger.specs.Handing.{TakesAll, StopCause, StopsAfter, StopsWithin}
+use Rattle.hw_search_ledger.specs.Naming.{taught}
 use Rattle.hw_search.specs.Turning.{TurnBegins, turn_of, halted}
-use Rattle.hw_ledger.proofs.Handed.{grows_by, grown_with, told_by, take_front}
+use Rattle.hw_search_ledger.proofs.Handed.{grows_by, grown_with, told_by, take_front}
 use Rattle.hw_search.proofs.Stopping.{Left, Planned, Stopped, left_sourced, cited_sourced, stop_meets}
 use Rattle.hw_search.proofs.Answering.{Same, same_mid, mid_fits, before_stops, halts, tells}
 

@@ -12,22 +12,22 @@ use Rattle.hw_model.specs.Problem.{shape_of}
 use Rattle.hw_model.specs.Rooms.{RoomModel, IsPoint}
 use Rattle.hw_model.specs.Timetables.{Permits, cargo, beats}
 use Rattle.hw_store.specs.declared.store.Stored.{Stored}
-use Rattle.hw_story.specs.declared.event.Event.{Event}
-use Rattle.hw_story.specs.Trails.{TrailModel, trail_shape, decided}
-use Rattle.hw_story.proofs.Kept.{more_room}
-use Rattle.hw_advice.specs.Advisers as advice
-use Rattle.hw_progress.specs.Branches.{branch_literal}
-use Rattle.hw_progress.specs.Searches.{SearchModel, IsSearch, room_in, best_cargo}
-use Rattle.hw_progress.specs.Settling.{AllQuiet}
-use Rattle.hw_progress.specs.Starting.{Branches}
-use Rattle.hw_progress.proofs.Choices.{branch_open}
-use Rattle.hw_progress.proofs.Keeps.{decided_search, better_search}
-use Rattle.hw_laws.proofs.Quiets.{best_quiet}
+use Rattle.hw_trail_laws.specs.declared.event.Event.{Event}
+use Rattle.hw_trail_laws.specs.Trails.{TrailModel, trail_shape, decided}
+use Rattle.hw_trail_laws.proofs.Kept.{more_room}
+use Rattle.hw_search_advice.specs.Advisers as advice
+use Rattle.hw_search_laws.specs.Branches.{branch_literal}
+use Rattle.hw_search_laws.specs.Searches.{SearchModel, IsSearch, room_in, best_cargo}
+use Rattle.hw_search_laws.specs.Settling.{AllQuiet}
+use Rattle.hw_search_laws.specs.Starting.{Branches}
+use Rattle.hw_search_laws.proofs.Choices.{branch_open}
+use Rattle.hw_search_laws.proofs.Keeps.{decided_search, better_search}
+use Rattle.hw_model_laws.proofs.Quiets.{best_quiet}
 use Rattle.hw_search.proofs.Levels.{levels_decided, levels_best, at_get, one_place}
 use Rattle.hw_search.specs.Engines.{EngineModel, KeepsEngine, QuietUnmarked}
-use Rattle.hw_ledger.specs.Ledgers.{LedgerModel}
-use Rattle.hw_sources.specs.Marks.{is_place_marked, MarksPlaces}
-use Rattle.hw_sources.specs.Speaking.{SpeakersModel, speakers_of}
+use Rattle.hw_search_ledger.specs.Ledgers.{LedgerModel}
+use Rattle.hw_search_sources.specs.Marks.{is_place_marked, MarksPlaces}
+use Rattle.hw_search_sources.specs.Speaking.{SpeakersModel, speakers_of}
 use Rattle.hw_search.proofs.Kept.{lit_here, room_here, few_in}
 use Rattle.hw_search.proofs.Markings.{quiet_cut}
 

@@ -7,23 +7,23 @@ use Rattle.std.proofs.lemmas.List.{take-append-drop}
 use Rattle.std.proofs.lemmas.List.Elements.{Contains-append_left, Contains-append_right, Contains-append_cases, filter_map-append}
 use Rattle.std.proofs.lemmas.List.Kept.{AllPairs-from_increasing}
 use Rattle.hw_model.specs.declared.lit.Lit.{Lit}
-use Rattle.hw_lines.specs.declared.line.Line.{Line}
-use Rattle.hw_lines.specs.declared.line.Line.TheVariants as lines
-use Rattle.hw_lines.specs.Lines.{source_line, clause_count, live}
-use Rattle.hw_story.specs.declared.event.Why.{Why}
-use Rattle.hw_story.specs.declared.event.Why.TheVariants as whys
+use Rattle.hw_cert_lines.specs.declared.line.Line.{Line}
+use Rattle.hw_cert_lines.specs.declared.line.Line.TheVariants as lines
+use Rattle.hw_cert_lines.specs.Lines.{source_line, clause_count, live}
+use Rattle.hw_trail_laws.specs.declared.event.Why.{Why}
+use Rattle.hw_trail_laws.specs.declared.event.Why.TheVariants as whys
 use Rattle.hw_store.specs.declared.store.Stored.{Stored}
-use Rattle.hw_progress.specs.Searches.{SearchModel, kept_numbers}
-use Rattle.hw_progress.specs.Turns.{Cited, cite_conflict, unkept}
-use Rattle.hw_progress.specs.Laws.{lemma_lines}
-use Rattle.hw_progress.proofs.Numbers.{contains_here, contains_there, contains_cases, contains_none, numbers_push}
-use Rattle.hw_progress.proofs.Lines.{IsClauseLine, source_is, lemma_is, live_stays, live_back, new_live}
-use Rattle.hw_progress.proofs.Priced.{priced_is}
-use Rattle.hw_progress.proofs.Backs.{contains_any, from_filter, unkept_has, unkept_not, any_contains}
-use Rattle.hw_progress.proofs.Citing.{Citing, Prepared}
-use Rattle.hw_ledger.specs.Dropped.{number_list, dropped}
-use Rattle.hw_ledger.specs.Naming.{own_number}
-use Rattle.hw_ledger.proofs.Named.{same_conflict}
+use Rattle.hw_search_laws.specs.Searches.{SearchModel, kept_numbers}
+use Rattle.hw_search_laws.specs.Turns.{Cited, cite_conflict, unkept}
+use Rattle.hw_search_laws.specs.Laws.{lemma_lines}
+use Rattle.hw_search_laws.proofs.Numbers.{contains_here, contains_there, contains_cases, contains_none, numbers_push}
+use Rattle.hw_search_laws.proofs.Lines.{IsClauseLine, source_is, lemma_is, live_stays, live_back, new_live}
+use Rattle.hw_search_laws.proofs.Priced.{priced_is}
+use Rattle.hw_search_laws.proofs.Backs.{contains_any, from_filter, unkept_has, unkept_not, any_contains}
+use Rattle.hw_search_laws.proofs.Citing.{Citing, Prepared}
+use Rattle.hw_search_ledger.specs.Dropped.{number_list, dropped}
+use Rattle.hw_search_ledger.specs.Naming.{own_number}
+use Rattle.hw_search_ledger.proofs.Named.{same_conflict}
 
 -- ---- two rising lists of the same members
 

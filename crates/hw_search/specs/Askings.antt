@@ -7,10 +7,10 @@ use Rattle.hw_model.specs.Quiet.{QuietSource}
 use Rattle.hw_model.specs.Replay.{QuietClause}
 use Rattle.hw_store.specs.declared.store.Stored.{Stored}
 use Rattle.hw_store.specs.Stores.{IsClauseOf}
-use Rattle.hw_story.specs.declared.event.Why.{Why}
-use Rattle.hw_story.specs.declared.event.Why.TheVariants as whys
-use Rattle.hw_progress.specs.Searches.{SearchModel, IsSearch, room_in, lemmas_in, best_cargo}
-use Rattle.hw_progress.specs.Settling.{Implies, IsConflict}
+use Rattle.hw_trail_laws.specs.declared.event.Why.{Why}
+use Rattle.hw_trail_laws.specs.declared.event.Why.TheVariants as whys
+use Rattle.hw_search_laws.specs.Searches.{SearchModel, IsSearch, room_in, lemmas_in, best_cargo}
+use Rattle.hw_search_laws.specs.Settling.{Implies, IsConflict}
 use Rattle.hw_search.specs.declared.settling.Asked.{Asked}
 use Rattle.hw_search.specs.declared.settling.Asked.TheVariants.{Quiet, Cut, Conflict}
 

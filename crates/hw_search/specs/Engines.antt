@@ -6,11 +6,11 @@ use Rattle.hw_model.specs.Problem.{Problem}
 use Rattle.hw_model.specs.Refuting.{IsSourceOf}
 use Rattle.hw_model.specs.Quiet.{QuietSource}
 use Rattle.hw_model.specs.Rooms.{RoomModel}
-use Rattle.hw_story.specs.Trails.{TrailModel, room_of, back_to, most_events}
-use Rattle.hw_progress.specs.Searches.{SearchModel, IsSearch, room_in, best_cargo}
-use Rattle.hw_progress.specs.Starting.{EachSourceOnce}
-use Rattle.hw_sources.specs.Speaking.{SpeakersModel, TellsSpeakers}
-use Rattle.hw_sources.specs.Marks.{is_place_marked}
+use Rattle.hw_trail_laws.specs.Trails.{TrailModel, room_of, back_to, most_events}
+use Rattle.hw_search_laws.specs.Searches.{SearchModel, IsSearch, room_in, best_cargo}
+use Rattle.hw_search_laws.specs.Starting.{EachSourceOnce}
+use Rattle.hw_search_sources.specs.Speaking.{SpeakersModel, TellsSpeakers}
+use Rattle.hw_search_sources.specs.Marks.{is_place_marked}
 
 -- the search, its sources in order, and for each whether it is marked: one without a mark is known to be quiet
 pub record EngineModel : Type 0 where

@@ -1,12 +1,12 @@
 -- A log's faults stay as they were, unless the log failed.
 use Rattle.std.specs.Prelude.{◌≡◌, ⊤}
 use Rattle.hw_cert.specs.Logs.{LogModel}
-use Rattle.hw_progress.specs.declared.outcome.Turn.{Turn}
-use Rattle.hw_progress.specs.declared.outcome.Turn.TheVariants.{Decided, Better, Lemma, Ended}
-use Rattle.hw_progress.specs.declared.outcome.Turn.TheVariants as turns
-use Rattle.hw_progress.specs.declared.outcome.Solved.{Solved}
-use Rattle.hw_progress.specs.declared.outcome.Solved.TheVariants.{Optimal, Infeasible, Unfinished}
-use Rattle.hw_progress.specs.declared.outcome.Solved.TheVariants as answers
+use Rattle.hw_search_laws.specs.declared.outcome.Turn.{Turn}
+use Rattle.hw_search_laws.specs.declared.outcome.Turn.TheVariants.{Decided, Better, Lemma, Ended}
+use Rattle.hw_search_laws.specs.declared.outcome.Turn.TheVariants as turns
+use Rattle.hw_search_laws.specs.declared.outcome.Solved.{Solved}
+use Rattle.hw_search_laws.specs.declared.outcome.Solved.TheVariants.{Optimal, Infeasible, Unfinished}
+use Rattle.hw_search_laws.specs.declared.outcome.Solved.TheVariants as answers
 
 -- a turn had no fault of the log, unless it says that the log failed
 abbrev pub TurnKeepsFaults : Turn → LogModel → LogModel → Type 0

@@ -3,15 +3,15 @@ use Rattle.std.specs.Prelude.{◌≡◌, ℕ, ◌+◌, ◌-◌, ◌*◌, ◌≤�
 use Rattle.hw_model.specs.Problem.{Problem, shape_of}
 use Rattle.hw_model.specs.Rooms.{whole_room}
 use Rattle.hw_model.specs.Refuting.{greatest_sum}
-use Rattle.hw_lines.specs.declared.line.Line.{Line}
-use Rattle.hw_lines.specs.Tolled.{is_plain}
-use Rattle.hw_lines.specs.Lines.{last_table}
-use Rattle.hw_lines.specs.Valid.{LineFits, Valid}
-use Rattle.hw_lines.specs.Lemmas.{lemmas_of, IsNew, IsLean}
-use Rattle.hw_story.specs.Trails.{most_events}
+use Rattle.hw_cert_lines.specs.declared.line.Line.{Line}
+use Rattle.hw_cert_lines.specs.Tolled.{is_plain}
+use Rattle.hw_cert_lines.specs.Lines.{last_table}
+use Rattle.hw_cert_lines.specs.Valid.{LineFits, Valid}
+use Rattle.hw_cert_lines.specs.Lemmas.{lemmas_of, IsNew, IsLean}
+use Rattle.hw_trail_laws.specs.Trails.{most_events}
 use Rattle.hw_cert.specs.Logs.{LogTold, LogModel, Grows}
-use Rattle.hw_progress.specs.Living.{FewLiveThroughout}
-use Rattle.hw_progress.specs.Searches.{SearchModel, LogFits, best_cargo}
+use Rattle.hw_search_laws.specs.Living.{FewLiveThroughout}
+use Rattle.hw_search_laws.specs.Searches.{SearchModel, LogFits, best_cargo}
 
 -- the lines say nothing of tolls or prices, are of the problem's shape, valid, lean and new, and few are live after each
 pub record WellWritten (f : Problem) (all : List Line) : Type 0 where

@@ -1,5 +1,5 @@
 -- What a search keeps of tolls and prices, as laws see it.
-use Rattle.hw_progress.specs.Prices.{PriceModel}
+use Rattle.hw_search_laws.specs.Prices.{PriceModel}
 use Rattle.hw_search.specs.declared.prices.Declared.{Declared}
 
 -- the tolls and prices that were told

@@ -2,13 +2,13 @@
 use Rattle.std.specs.Prelude.{◌≡◌, ◌<◌, ◌≤◌, ◌++◌, Result, Ok, Err, ℕ, [], ◌∷◌, IfSome, IsSomeAnd}
 use Rattle.hw_cert.specs.declared.log.LogStop.{LogStop}
 use Rattle.hw_cert.specs.Logs.{LogModel, Grows}
-use Rattle.hw_advice.specs.declared.adviser.Standing.{Standing}
-use Rattle.hw_progress.specs.Prices.{PriceModel, with_bound}
-use Rattle.hw_progress.specs.Searches.{SearchModel, IsSearch}
-use Rattle.hw_progress.specs.Advised.{Heeds, StopsBy, HeedWrites}
+use Rattle.hw_search_advice.specs.declared.adviser.Standing.{Standing}
+use Rattle.hw_search_laws.specs.Prices.{PriceModel, with_bound}
+use Rattle.hw_search_laws.specs.Searches.{SearchModel, IsSearch}
+use Rattle.hw_search_laws.specs.Advised.{Heeds, StopsBy, HeedWrites}
 use Rattle.hw_search.specs.Turning.{turn_of}
-use Rattle.hw_tolls.specs.Prices.{PricesBound}
-use Rattle.hw_lines.specs.declared.line.Line.TheVariants as lines
+use Rattle.hw_price_laws.specs.Prices.{PricesBound}
+use Rattle.hw_cert_lines.specs.declared.line.Line.TheVariants as lines
 
 -- where a search stands
 abbrev pub standing_of : SearchModel → Standing

@@ -1,20 +1,20 @@
 -- What a turn begins with, and how it answers where a line wasn't taken.
 use Rattle.std.specs.Prelude.{◌≡◌, ℕ, ◌<◌, ◌≤◌, ◌++◌, ◌∷◌, [], true, false, List, Option, None, length}
 use Rattle.hw_model.specs.declared.lit.Lit.{Lit}
-use Rattle.hw_story.specs.declared.event.Why.{Why}
-use Rattle.hw_story.specs.Learning.{Learns}
-use Rattle.hw_story.specs.Trails.{reason_clause, decided}
+use Rattle.hw_trail_laws.specs.declared.event.Why.{Why}
+use Rattle.hw_trail_laws.specs.Learning.{Learns}
+use Rattle.hw_trail_laws.specs.Trails.{reason_clause, decided}
 use Rattle.hw_cert.specs.declared.log.LogStop.{LogStop}
 use Rattle.hw_cert.specs.declared.log.LogStop.TheVariants.{Failed, NoMemory}
 use Rattle.hw_cert.specs.Logs.{LogModel, WhereTold}
-use Rattle.hw_progress.specs.declared.limits.TheConstants.{MOST_BUDGET}
-use Rattle.hw_progress.specs.declared.outcome.Turn.{Turn}
-use Rattle.hw_progress.specs.declared.outcome.Turn.TheVariants as turns
-use Rattle.hw_progress.specs.Searches.{SearchModel, IsSearch, LogFits}
-use Rattle.hw_progress.specs.declared.outcome.Settled.{Settled}
-use Rattle.hw_progress.specs.Settling.{IsConflict, Settles}
-use Rattle.hw_progress.specs.Starting.{Branches}
-use Rattle.hw_progress.specs.Turns.{TurnMeets}
+use Rattle.hw_search_laws.specs.declared.limits.TheConstants.{MOST_BUDGET}
+use Rattle.hw_search_laws.specs.declared.outcome.Turn.{Turn}
+use Rattle.hw_search_laws.specs.declared.outcome.Turn.TheVariants as turns
+use Rattle.hw_search_laws.specs.Searches.{SearchModel, IsSearch, LogFits}
+use Rattle.hw_search_laws.specs.declared.outcome.Settled.{Settled}
+use Rattle.hw_search_laws.specs.Settling.{IsConflict, Settles}
+use Rattle.hw_search_laws.specs.Starting.{Branches}
+use Rattle.hw_search_laws.specs.Turns.{TurnMeets}
 
 -- a search that isn't over and has lemmas left, and a log that fits it
 pub record TurnBegins (s : SearchModel) (old : LogModel) : Type 0 where

@@ -3,12 +3,12 @@
 ghost use Rattle.std.specs.Prelude.{◌≡◌, IfOk};
 ghost use Rattle.hw_store.specs.Stores.{IsNotHeld};
 ghost use Rattle.hw_search.specs.Askings.{IsHeldWhy};
-ghost use Rattle.hw_story.specs.Trails.{reason_clause};
+ghost use Rattle.hw_trail_laws.specs.Trails.{reason_clause};
 
 use hw_lits::Clause;
 use hw_model::NoMemory;
 use hw_store::Store;
-use hw_story::Why;
+use hw_trail_laws::Why;
 use std::alloc::Global;
 
 /// The reason by the clause that is held under a number.

@@ -4,18 +4,18 @@ ghost use Rattle.std.specs.Prelude.{◌≡◌, [], All, IfOk, map};
 ghost use Rattle.std.specs.Option.{option_copied};
 ghost use Rattle.hw_model.specs.Problem.{shape_of};
 ghost use Rattle.hw_model.specs.Rooms.{whole_room};
-ghost use Rattle.hw_progress.specs.Searches.{new_search, room_in, IsSearch};
-ghost use Rattle.hw_progress.specs.Starting.{EachSourceOnce};
+ghost use Rattle.hw_search_laws.specs.Searches.{new_search, room_in, IsSearch};
+ghost use Rattle.hw_search_laws.specs.Starting.{EachSourceOnce};
 
 use crate::prices::Declared;
 use hw_flat::{Flat, Room, Timetable};
-use hw_ledger::Ledger;
 use hw_model::NoMemory;
-use hw_progress::Branching;
+use hw_price_laws::Tariff;
 use hw_prop::Propagator;
-use hw_sources::{Marks, Speakers, goal_of, sources_of};
+use hw_search_laws::Branching;
+use hw_search_ledger::Ledger;
+use hw_search_sources::{Marks, Speakers, goal_of, sources_of};
 use hw_store::Store;
-use hw_tolls::Tariff;
 use hw_trail::Trail;
 use std::alloc::Global;
 use std::marker::Model;
@@ -66,10 +66,10 @@ pub struct Engine<'f, S: Store + Drop, P: Propagator + Drop> {
 
 impl<'f, S: Store + Drop, P: Propagator + Drop> Model for Engine<'f, S, P> {
     ghost use Rattle.std.specs.Prelude.{◌≡◌, All, map};
-    ghost use Rattle.hw_progress.specs.Searches.{SearchModel};
+    ghost use Rattle.hw_search_laws.specs.Searches.{SearchModel};
     ghost use Rattle.hw_search.specs.Engines.{EngineModel, KeepsEngine};
     ghost use Rattle.hw_search.specs.Prices.{prices_of};
-    ghost use Rattle.hw_story.specs.Trails.{room_of};
+    ghost use Rattle.hw_trail_laws.specs.Trails.{room_of};
 
     ghost Value = { EngineModel };
 

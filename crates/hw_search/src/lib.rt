@@ -14,7 +14,7 @@ mod settling;
 mod solving;
 mod turning;
 
-pub use hw_progress::{Branching, Settled, Solved, Turn};
+pub use hw_search_laws::{Branching, Settled, Solved, Turn};
 pub use search::Search;
 pub use settling::Asked;
 pub use solving::{proved, solve};

@@ -1,10 +1,10 @@
 //! The tolls and prices that a search has told.
 
 ghost use Rattle.std.specs.Prelude.{◌≡◌};
-ghost use Rattle.hw_progress.specs.Prices.{unpriced_model, with_bound, with_tariff};
+ghost use Rattle.hw_search_laws.specs.Prices.{unpriced_model, with_bound, with_tariff};
 ghost use Rattle.hw_search.specs.Prices.{prices_of};
 
-use hw_tolls::{Tariff, Toll};
+use hw_price_laws::{Tariff, Toll};
 use std::alloc::Global;
 
 /// The tolls that were declared, in order, the tariff in force on them, and the last bound, with the

@@ -8,26 +8,26 @@ ghost use Rattle.hw_model.specs.Lits.{lit_fits, IsClause};
 ghost use Rattle.hw_model.specs.Narrowing.{truth};
 ghost use Rattle.hw_model.specs.Problem.{shape_of};
 ghost use Rattle.hw_model.specs.Replay.{narrowing};
-ghost use Rattle.hw_story.specs.Trails.{trail_shape};
-ghost use Rattle.hw_tolls.specs.Tolls.{IsToll};
-ghost use Rattle.hw_tolls.specs.Prices.{TariffFits};
+ghost use Rattle.hw_trail_laws.specs.Trails.{trail_shape};
+ghost use Rattle.hw_price_laws.specs.Tolls.{IsToll};
+ghost use Rattle.hw_price_laws.specs.Prices.{TariffFits};
 ghost use Rattle.hw_cert.specs.Logs.{WhereTold};
-ghost use Rattle.hw_progress.specs.Prices.{with_tariff, prices_with_toll, DuesAscend};
-ghost use Rattle.hw_progress.specs.Searches.{best_cargo, room_in, IsSearch, LogFits, PricesShow};
-ghost use Rattle.hw_progress.specs.Advised.{with_priced};
+ghost use Rattle.hw_search_laws.specs.Prices.{with_tariff, prices_with_toll, DuesAscend};
+ghost use Rattle.hw_search_laws.specs.Searches.{best_cargo, room_in, IsSearch, LogFits, PricesShow};
+ghost use Rattle.hw_search_laws.specs.Advised.{with_priced};
 ghost use Rattle.hw_search.specs.Pricing.{standing_of, with_other_prices, HeedMeets, IsBelow, ShowsBound, TellMeets};
 
 use crate::engine::Engine;
-use hw_advice::{Scene, Standing};
 use hw_cert::{Log, LogStop};
-use hw_ledger::{hand_bound, hand_priced, hand_tariff, hand_toll};
 use hw_lits::Clause;
 use hw_model::{Lit, MOST_CARGO};
-use hw_progress::{MOST_BUDGET, MOST_PRICED};
+use hw_price_laws::{MOST_TOLLS, Tariff, Toll};
 use hw_prop::Propagator;
+use hw_search_advice::{Scene, Standing};
+use hw_search_laws::{MOST_BUDGET, MOST_PRICED};
+use hw_search_ledger::{hand_bound, hand_priced, hand_tariff, hand_toll};
 use hw_store::Store;
-use hw_story::Why;
-use hw_tolls::{MOST_TOLLS, Tariff, Toll};
+use hw_trail_laws::Why;
 
 impl<'f, S: Store + Drop, P: Propagator + Drop> Engine<'f, S, P> {
     /// What an adviser looks at.

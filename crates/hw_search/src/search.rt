@@ -10,34 +10,34 @@ ghost use Rattle.hw_model.specs.Problem.{shape_of};
 ghost use Rattle.hw_model.specs.Replay.{narrowing};
 ghost use Rattle.hw_model.specs.Rooms.{IsPoint, whole_room};
 ghost use Rattle.hw_model.specs.Timetables.{Permits};
-ghost use Rattle.hw_story.specs.Trails.{trail_shape};
-ghost use Rattle.hw_tolls.specs.Tolls.{IsToll};
-ghost use Rattle.hw_tolls.specs.Prices.{TariffFits};
-ghost use Rattle.hw_advice.specs.Advisers.{IsOpenIn};
+ghost use Rattle.hw_trail_laws.specs.Trails.{trail_shape};
+ghost use Rattle.hw_price_laws.specs.Tolls.{IsToll};
+ghost use Rattle.hw_price_laws.specs.Prices.{TariffFits};
+ghost use Rattle.hw_search_advice.specs.Advisers.{IsOpenIn};
 ghost use Rattle.hw_cert.specs.Logs.{IsWhole, WhereTold};
-ghost use Rattle.hw_progress.specs.declared.outcome.Settled.TheVariants.{Quiet, Conflict};
-ghost use Rattle.hw_progress.specs.Advised.{with_priced};
-ghost use Rattle.hw_progress.specs.Offers.{IsBetter, OfferMeets};
-ghost use Rattle.hw_progress.specs.Prices.{with_tariff, prices_with_toll, DuesAscend};
-ghost use Rattle.hw_progress.specs.Searches.{best_cargo, new_search, room_in, IsSearch, LogFits, PricesShow};
-ghost use Rattle.hw_progress.specs.Settling.{AllQuiet, IsConflict, SettleMeets};
-ghost use Rattle.hw_progress.specs.Starting.{Branches, EachSourceOnce};
-ghost use Rattle.hw_progress.specs.Turns.{TurnMeets};
+ghost use Rattle.hw_search_laws.specs.declared.outcome.Settled.TheVariants.{Quiet, Conflict};
+ghost use Rattle.hw_search_laws.specs.Advised.{with_priced};
+ghost use Rattle.hw_search_laws.specs.Offers.{IsBetter, OfferMeets};
+ghost use Rattle.hw_search_laws.specs.Prices.{with_tariff, prices_with_toll, DuesAscend};
+ghost use Rattle.hw_search_laws.specs.Searches.{best_cargo, new_search, room_in, IsSearch, LogFits, PricesShow};
+ghost use Rattle.hw_search_laws.specs.Settling.{AllQuiet, IsConflict, SettleMeets};
+ghost use Rattle.hw_search_laws.specs.Starting.{Branches, EachSourceOnce};
+ghost use Rattle.hw_search_laws.specs.Turns.{TurnMeets};
 ghost use Rattle.hw_search.specs.Faults.{TurnKeepsFaults};
 ghost use Rattle.hw_search.specs.Pricing.{standing_of, with_other_prices, HeedMeets, IsBelow, ShowsBound, TellMeets};
 ghost use Rattle.hw_search.specs.Turning.{decided_by, turn_of, Decides, TurnsFrom};
 
 use crate::engine::Engine;
-use hw_advice::Scene;
 use hw_cert::{Log, LogStop};
 use hw_flat::{Flat, Room, Timetable};
 use hw_lits::Clause;
 use hw_model::{Lit, MOST_CARGO, NoMemory};
-use hw_progress::{Branching, MOST_BUDGET, MOST_PRICED, Settled, Turn};
+use hw_price_laws::{MOST_TOLLS, Tariff, Toll};
 use hw_prop::Propagator;
+use hw_search_advice::Scene;
+use hw_search_laws::{Branching, MOST_BUDGET, MOST_PRICED, Settled, Turn};
 use hw_store::Store;
-use hw_story::Why;
-use hw_tolls::{MOST_TOLLS, Tariff, Toll};
+use hw_trail_laws::Why;
 use std::alloc::Global;
 use std::marker::Model;
 
@@ -48,7 +48,7 @@ pub struct Search<'f, S: Store + Drop, P: Propagator + Drop> {
 }
 
 impl<'f, S: Store + Drop, P: Propagator + Drop> Model for Search<'f, S, P> {
-    ghost use Rattle.hw_progress.specs.Searches.{SearchModel};
+    ghost use Rattle.hw_search_laws.specs.Searches.{SearchModel};
 
     ghost Value = { SearchModel };
 

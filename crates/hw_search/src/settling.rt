@@ -9,21 +9,21 @@ ghost use Rattle.hw_model.specs.Narrowing.{truth};
 ghost use Rattle.hw_model.specs.Problem.{shape_of};
 ghost use Rattle.hw_model.specs.Replay.{narrowing};
 ghost use Rattle.hw_lits.specs.Active.{IsActive};
-ghost use Rattle.hw_story.specs.Trails.{trail_shape, reason_clause};
-ghost use Rattle.hw_progress.specs.Searches.{room_in, HasLine, IsReason, IsSearch};
-ghost use Rattle.hw_progress.specs.Settling.{SettleMeets, with_events};
-ghost use Rattle.hw_sources.specs.Marks.{AllClear, NextMarked};
+ghost use Rattle.hw_trail_laws.specs.Trails.{trail_shape, reason_clause};
+ghost use Rattle.hw_search_laws.specs.Searches.{room_in, HasLine, IsReason, IsSearch};
+ghost use Rattle.hw_search_laws.specs.Settling.{SettleMeets, with_events};
+ghost use Rattle.hw_search_sources.specs.Marks.{AllClear, NextMarked};
 ghost use Rattle.hw_search.specs.Askings.{AskMeets, StoreMeets, LemmasQuiet, SourcesQuiet};
 
 use crate::asking::{clause_of, lemma_of};
 use crate::engine::Engine;
 use hw_lits::{Found, narrowing};
 use hw_model::{Lit, Narrowed, NoMemory};
-use hw_progress::Settled;
 use hw_prop::Propagator;
-use hw_sources::ask_at;
+use hw_search_laws::Settled;
+use hw_search_sources::ask_at;
 use hw_store::{Held, Store};
-use hw_story::Why;
+use hw_trail_laws::Why;
 
 /// What asking brought: all that was asked is quiet, a literal was implied, or a clause has no
 /// literal left.

@@ -2,18 +2,18 @@
 ghost use Rattle.std.specs.Prelude.{◌≡◌, ◌≤◌, ◌<◌, true, false, IfOk, IfSome};
 ghost use Rattle.hw_cert.specs.Logs.{IsEmpty};
 ghost use Rattle.hw_model.specs.Timetables.{Permits};
-ghost use Rattle.hw_progress.specs.Proving.{IsEndOf};
-ghost use Rattle.hw_progress.specs.Searches.{new_search};
-ghost use Rattle.hw_progress.specs.Solving.{SolveMeets};
+ghost use Rattle.hw_search_laws.specs.Proving.{IsEndOf};
+ghost use Rattle.hw_search_laws.specs.Searches.{new_search};
+ghost use Rattle.hw_search_laws.specs.Solving.{SolveMeets};
 ghost use Rattle.hw_search.specs.Faults.{SolvedKeepsFaults};
 
 use crate::search::Search;
 use hw_cert::Log;
 use hw_flat::{Flat, Timetable};
 use hw_model::NoMemory;
-use hw_progress::{Branching, MOST_BUDGET, Solved, Turn};
 use hw_rules::cargo;
-use hw_sources::{AnyPropagator, propagators};
+use hw_search_laws::{Branching, MOST_BUDGET, Solved, Turn};
+use hw_search_sources::{AnyPropagator, propagators};
 use hw_store::WatchStore;
 use std::alloc::Global;
 

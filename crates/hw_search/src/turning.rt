@@ -3,31 +3,31 @@
 ghost use Rattle.std.specs.Prelude.{◌≡◌, ◌<◌, ◌≤◌, ℕ, [], true, false, IsTrue, Some, length};
 ghost use Rattle.hw_model.specs.Timetables.{Permits, cargo, beats};
 ghost use Rattle.hw_model.specs.Rooms.{IsPoint, point_of};
-ghost use Rattle.hw_story.specs.Trails.{reason_clause, decided};
+ghost use Rattle.hw_trail_laws.specs.Trails.{reason_clause, decided};
 ghost use Rattle.hw_cert.specs.Logs.{WhereTold, IsWhole};
-ghost use Rattle.hw_progress.specs.declared.outcome.Settled.TheVariants.{Quiet, Conflict};
-ghost use Rattle.hw_progress.specs.Searches.{SearchModel, IsSearch, LogFits, room_in, best_cargo};
-ghost use Rattle.hw_progress.specs.Settling.{AllQuiet, IsConflict, Settles};
-ghost use Rattle.hw_advice.specs.Advisers.{IsOpenIn};
-ghost use Rattle.hw_progress.specs.Starting.{Branches};
-ghost use Rattle.hw_progress.specs.Turns.{TurnMeets};
-ghost use Rattle.hw_progress.specs.Offers.{IsBetter, OfferMeets};
+ghost use Rattle.hw_search_laws.specs.declared.outcome.Settled.TheVariants.{Quiet, Conflict};
+ghost use Rattle.hw_search_laws.specs.Searches.{SearchModel, IsSearch, LogFits, room_in, best_cargo};
+ghost use Rattle.hw_search_laws.specs.Settling.{AllQuiet, IsConflict, Settles};
+ghost use Rattle.hw_search_advice.specs.Advisers.{IsOpenIn};
+ghost use Rattle.hw_search_laws.specs.Starting.{Branches};
+ghost use Rattle.hw_search_laws.specs.Turns.{TurnMeets};
+ghost use Rattle.hw_search_laws.specs.Offers.{IsBetter, OfferMeets};
 ghost use Rattle.hw_search.specs.Faults.{TurnKeepsFaults};
 ghost use Rattle.hw_search.specs.Turning.{Decides, Teaches, TurnsFrom, decided_by, turn_of};
 
 use crate::asking::clause_of;
 use crate::engine::{Best, Engine};
-use hw_branching::{branch, next_level};
 use hw_cert::{Log, LogStop};
 use hw_flat::Timetable;
 use hw_learn::{Learnt, learn};
-use hw_ledger::{hand_copy, hand_table, hand_why};
 use hw_model::Lit;
-use hw_progress::{MOST_BUDGET, Settled, Turn};
 use hw_prop::Propagator;
 use hw_rules::cargo;
+use hw_search_laws::{MOST_BUDGET, Settled, Turn};
+use hw_search_ledger::{hand_copy, hand_table, hand_why};
+use hw_search_sources::{branch, next_level};
 use hw_store::Store;
-use hw_story::Why;
+use hw_trail_laws::Why;
 
 /// The answer where a line wasn't taken. It takes no memory.
 fn turn_of(stop: LogStop) -> Turn

@@ -4,13 +4,13 @@ ghost use Rattle.std.specs.Prelude.{◌≡◌, All, IfOk, IsTrue, map};
 ghost use Rattle.hw_model.specs.Problem.{shape_of};
 ghost use Rattle.hw_model.specs.Refuting.{IsSourceOf};
 ghost use Rattle.hw_model.specs.Rooms.{whole_room};
-ghost use Rattle.hw_progress.specs.Starting.{EachSourceOnce};
+ghost use Rattle.hw_search_laws.specs.Starting.{EachSourceOnce};
 ghost use Rattle.hw_rules.specs.Sources.{AreSourcesOf};
 
 use hw_flat::{Flat, NoMemory, Source};
 use hw_prop::{Propagator, Shaver};
 use hw_rules::sources;
-use hw_sources::{AnyPropagator, for_source};
+use hw_search_sources::{AnyPropagator, for_source};
 use std::alloc::Global;
 use std::test::Fail;
 

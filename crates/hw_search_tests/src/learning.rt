@@ -4,7 +4,7 @@ ghost use Rattle.std.specs.Prelude.{◌≡◌, All, IsTrue};
 ghost use Rattle.hw_model.specs.declared.lit.LitTruth.TheVariants.{False};
 ghost use Rattle.hw_model.specs.Lits.{IsLitOf};
 ghost use Rattle.hw_model.specs.Narrowing.{truth};
-ghost use Rattle.hw_story.specs.Trails.{room_of};
+ghost use Rattle.hw_trail_laws.specs.Trails.{room_of};
 
 use crate::levels::{Step, clause_of, trail_of, truth_of};
 use hw_flat::Flat;

@@ -3,13 +3,13 @@
 ghost use Rattle.std.specs.Prelude.{◌≡◌, ◌≤◌, IfOk};
 ghost use Rattle.hw_model.specs.Lits.{IsClause, IsLitOf};
 ghost use Rattle.hw_model.specs.Narrowing.{truth};
-ghost use Rattle.hw_story.specs.Trails.{trail_shape, room_of};
+ghost use Rattle.hw_trail_laws.specs.Trails.{trail_shape, room_of};
 
 use hw_flat::{Flat, Shape};
 use hw_lits::{Clause, narrow, truth};
 use hw_model::{Lit, LitTruth, Narrowed};
-use hw_story::Why;
 use hw_trail::Trail;
+use hw_trail_laws::Why;
 use std::alloc::Global;
 use std::test::Fail;
 

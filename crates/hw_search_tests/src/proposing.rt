@@ -1,12 +1,12 @@
 //! Whole solutions with an adviser that proposes a timetable: it is taken where it is permitted and better.
 
 use crate::problems::APART;
-use hw_advice::{Advice, Adviser, Bounding, Scene};
 use hw_cert::MemoryLog;
 use hw_flat::{Flat, Timetable};
 use hw_model::{Lit, NoMemory, Slot};
-use hw_proving::prove;
 use hw_search::Solved;
+use hw_search_advice::{Advice, Adviser, Bounding, Scene};
+use hw_search_advised::prove;
 use std::alloc::Global;
 use std::test::Fail;
 

@@ -3,11 +3,11 @@
 ghost use Rattle.std.specs.Prelude.{◌≤◌};
 
 use crate::problems::{APART, CROWDED, NONE_FITS, TUGS};
-use hw_advice::NoAdvice;
 use hw_cert::MemoryLog;
 use hw_flat::{Flat, make_demo};
-use hw_proving::prove;
 use hw_search::solve;
+use hw_search_advice::NoAdvice;
+use hw_search_advised::prove;
 use std::alloc::Global;
 use std::test::Fail;
 

@@ -2,9 +2,9 @@
 
 use crate::problems::SEVEN;
 use crate::turns::whole_run;
-use hw_branching::luby;
 use hw_cert::{Line, MemoryLog};
 use hw_flat::Flat;
+use hw_search_sources::luby;
 use hw_store::WatchStore;
 use std::process::Abort;
 use std::test::Fail;

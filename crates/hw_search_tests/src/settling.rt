@@ -7,7 +7,7 @@ use hw_flat::{Flat, Order, Room, Source};
 use hw_model::Lit;
 use hw_search::{Branching, Settled};
 use hw_store::ScanStore;
-use hw_story::Why;
+use hw_trail_laws::Why;
 use std::alloc::Global;
 use std::process::Abort;
 use std::test::Fail;

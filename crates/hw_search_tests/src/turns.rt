@@ -4,14 +4,14 @@ ghost use Rattle.std.specs.Prelude.{◌≡◌, ◌≤◌, [], IfOk};
 ghost use Rattle.hw_cert.specs.Logs.{IsEmpty};
 ghost use Rattle.hw_model.specs.Problem.{shape_of};
 ghost use Rattle.hw_model.specs.Rooms.{whole_room};
-ghost use Rattle.hw_progress.specs.Searches.{new_search};
+ghost use Rattle.hw_search_laws.specs.Searches.{new_search};
 
 use crate::asking::{Asking, propagators};
 use hw_cert::Log;
 use hw_flat::{Flat, Room, Timetable};
 use hw_model::{Lit, NoMemory};
 use hw_search::{Branching, Search, Settled, Turn};
-use hw_sources::AnyPropagator;
+use hw_search_sources::AnyPropagator;
 use hw_store::Store;
 use std::alloc::Global;
 use std::test::Fail;

@@ -4,8 +4,8 @@ use Rattle.hw_model.specs.Problem.{Problem, shape_of}
 use Rattle.hw_desk.specs.State.{DeskState, IsNewDesk}
 use Rattle.hw_desk.specs.declared.desk.Feed.TheVariants.{Certificate}
 use Rattle.hw_desk.specs.declared.desk.Tray.TheVariants as tray
-use Rattle.hw_lines.specs.declared.check.Verdict.{Verdict}
-use Rattle.hw_lines.specs.declared.line.Line.{Line}
+use Rattle.hw_cert_lines.specs.declared.check.Verdict.{Verdict}
+use Rattle.hw_cert_lines.specs.declared.line.Line.{Line}
 use Rattle.hw_cert.specs.declared.version.Version.{Version}
 use Rattle.hw_cert.specs.declared.version.Version.TheVariants.{Three}
 use Rattle.hw_cert.specs.Stream.{cert_stream_to}

@@ -4,7 +4,7 @@ use Rattle.std.proofs.Math.Nat.{le-div_iff_mul-le}
 use Rattle.std.specs.Prelude.{IfSome}
 use Rattle.hw_model.specs.Problem.{Problem}
 use Rattle.hw_model.specs.Timetables.{Permits, cargo, IsBest, NonePermitted}
-use Rattle.hw_verdict.specs.Laws.{IsBound}
+use Rattle.hw_cert_laws.specs.Laws.{IsBound}
 use Rattle.hw_repair.specs.Wishes.{PlanParts, PlanFits, moved}
 use Rattle.hw_repair.proofs.Repairs.{repaired_permits, repaired_cargo, repaired_meets, best_repair}
 use Rattle.hw_subject.specs.Meanings.{IsBestOf, IsBoundOf, IsModelled, IsPrintedTable, NoneOf, StandsFor, judged, moved_by, own_moves, own_worth, repaired_problem}

@@ -4,7 +4,7 @@ use Rattle.std.specs.Prelude.{◌↔◌}
 use Rattle.hw_model.specs.Limits.{IsFlat}
 use Rattle.hw_model.specs.Problem.{Problem}
 use Rattle.hw_model.specs.Timetables.{Permits, cargo, plus}
-use Rattle.hw_laws.proofs.Cargoes.{has_cargo}
+use Rattle.hw_model_laws.proofs.Cargoes.{has_cargo}
 use Rattle.hw_flat.specs.TextWritten.{IsWritable}
 use Rattle.hw_port_laws.proofs.Limits.{flattened_fits_law, staying_is_nothing_law}
 use Rattle.hw_port_laws.proofs.Permits.{same_permitted_law, same_cargo_law}
@@ -12,10 +12,10 @@ use Rattle.hw_port.specs.Kept.{PortKept}
 use Rattle.hw_port.specs.Parts.{ShipParts}
 use Rattle.hw_port.specs.Whole.{Parts}
 use Rattle.hw_tide.specs.Levels.{TideParts}
-use Rattle.hw_port_rules.specs.Flattened.{flattened}
-use Rattle.hw_port_rules.specs.Permitted.{PortPermits, cargo_of, port_cargo, ship_cargo}
-use Rattle.hw_derived.specs.Fleets.{lessened}
-use Rattle.hw_derived.proofs.Fleets.{lessened_cargo}
+use Rattle.hw_port_model.specs.Flattened.{flattened}
+use Rattle.hw_port_model.specs.Permitted.{PortPermits, cargo_of, port_cargo, ship_cargo}
+use Rattle.hw_plan_texts.specs.Fleets.{lessened}
+use Rattle.hw_plan_texts.proofs.Fleets.{lessened_cargo}
 use Rattle.hw_audit.specs.Laws.{fewer_tugs}
 use Rattle.hw_audit.proofs.Ports.{lessened_port, port_kept}
 use Rattle.hw_repair.proofs.Repairs.{repaired_fits, repaired_permits}

@@ -2,7 +2,7 @@
 use Rattle.std.proofs.Common.{◌≡◌, ◌∙◌, ℕ, List, Option, Some, None, IsSome, Result, Ok, Err, inl, inr, refl, sym, ap, subst}
 use Rattle.std.specs.Prelude.{◌≢◌}
 use Rattle.hw_desk.specs.declared.desk.Feed.TheVariants.{Instance, Tides}
-use Rattle.hw_lines.specs.declared.check.Verdict.TheVariants.{Infeasible}
+use Rattle.hw_cert_lines.specs.declared.check.Verdict.TheVariants.{Infeasible}
 use Rattle.hw_port.specs.Whole.{Parts}
 use Rattle.hw_read.specs.Instance.{PortReads as ReadsPort}
 use Rattle.hw_read.specs.declared.fault.ReadFault.{ReadFault}

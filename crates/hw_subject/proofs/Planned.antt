@@ -3,7 +3,7 @@ use Rattle.std.proofs.Common.{◌≡◌, ◌≤◌, ◌<◌, ◌⊎◌, ◌∙�
 use Rattle.std.proofs.lemmas.Bool.{le-ltb, lt-ltb}
 use Rattle.hw_model.specs.Problem.{Problem}
 use Rattle.hw_desk.specs.declared.desk.Feed.TheVariants as feeds
-use Rattle.hw_derived.specs.Reading.{MalformedLine}
+use Rattle.hw_plan_texts.specs.Reading.{MalformedLine}
 use Rattle.hw_repair.specs.Text.{plan_text}
 use Rattle.hw_repair.specs.declared.fault.PlanWord.{PlanWord}
 use Rattle.hw_repair.specs.Wishes.{PlanParts}

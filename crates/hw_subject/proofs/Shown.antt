@@ -1,16 +1,16 @@
 -- What valid lines of the judged problem say of the subject.
 use Rattle.std.proofs.Common.{◌≡◌, ◌∙◌, ℕ, Bool, true, false, List, Option, Some, None, All, option_and_then, IfSome, IsSomeAnd, refl, sym, subst}
 use Rattle.hw_model.specs.Timetables.{Permits, cargo, IsBest, NonePermitted}
-use Rattle.hw_laws.proofs.Cargoes.{has_cargo}
-use Rattle.hw_lines.specs.declared.check.Verdict.{Verdict}
-use Rattle.hw_lines.specs.declared.check.Verdict.TheVariants.{Optimal, Infeasible, Unfinished}
-use Rattle.hw_lines.specs.declared.line.Line.{Line}
-use Rattle.hw_lines.specs.Lines.{last_table, ends}
-use Rattle.hw_lines.specs.Tolled.{bound_of as last_bound}
-use Rattle.hw_lines.specs.Valid.{LineFits, Valid, verdict, verdict_by}
-use Rattle.hw_verdict.specs.Laws.{IsBound}
-use Rattle.hw_verdict.proofs.Bounded.{bounds}
-use Rattle.hw_verdict.proofs.Proved.{says_all, optimal, infeasible}
+use Rattle.hw_model_laws.proofs.Cargoes.{has_cargo}
+use Rattle.hw_cert_lines.specs.declared.check.Verdict.{Verdict}
+use Rattle.hw_cert_lines.specs.declared.check.Verdict.TheVariants.{Optimal, Infeasible, Unfinished}
+use Rattle.hw_cert_lines.specs.declared.line.Line.{Line}
+use Rattle.hw_cert_lines.specs.Lines.{last_table, ends}
+use Rattle.hw_cert_lines.specs.Tolled.{bound_of as last_bound}
+use Rattle.hw_cert_lines.specs.Valid.{LineFits, Valid, verdict, verdict_by}
+use Rattle.hw_cert_laws.specs.Laws.{IsBound}
+use Rattle.hw_cert_laws.proofs.Bounded.{bounds}
+use Rattle.hw_cert_laws.proofs.Proved.{says_all, optimal, infeasible}
 use Rattle.hw_subject.specs.Meanings.{IsBoundOf, IsModelled, StandsFor, VerdictSays, judged, own_worth}
 use Rattle.hw_subject.specs.Subjects.{Subject}
 use Rattle.hw_subject.proofs.Meant.{best_of, bound_of, none_of, stands_for}

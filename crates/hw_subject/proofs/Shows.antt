@@ -1,10 +1,10 @@
 -- What was read of a certificate shows this of the subject.
 use Rattle.std.proofs.Common.{◌≡◌, ℕ, List, Option, All, true, refl}
 use Rattle.hw_model.specs.Problem.{shape_of}
-use Rattle.hw_lines.specs.declared.check.Verdict.{Verdict}
-use Rattle.hw_lines.specs.declared.line.Line.{Line}
-use Rattle.hw_lines.specs.Lines.{last_table}
-use Rattle.hw_lines.specs.Tolled.{bound_of}
+use Rattle.hw_cert_lines.specs.declared.check.Verdict.{Verdict}
+use Rattle.hw_cert_lines.specs.declared.line.Line.{Line}
+use Rattle.hw_cert_lines.specs.Lines.{last_table}
+use Rattle.hw_cert_lines.specs.Tolled.{bound_of}
 use Rattle.hw_cert.specs.declared.version.Version.{Version}
 use Rattle.hw_cert.specs.Laws.{has_form}
 use Rattle.hw_cert.specs.Stream.{cert_stream_to}

@@ -3,8 +3,8 @@ use Rattle.std.specs.Prelude.{◌≡◌, ◌≤◌, ◌↔◌, ℕ, List, Option
 use Rattle.hw_model.specs.Limits.{IsFlat}
 use Rattle.hw_model.specs.Problem.{Problem}
 use Rattle.hw_model.specs.Timetables.{Permits, cargo}
-use Rattle.hw_lines.specs.declared.check.Verdict.{Verdict}
-use Rattle.hw_lines.specs.declared.check.Verdict.TheVariants as verdicts
+use Rattle.hw_cert_lines.specs.declared.check.Verdict.{Verdict}
+use Rattle.hw_cert_lines.specs.declared.check.Verdict.TheVariants as verdicts
 use Rattle.hw_report.specs.declared.report.Head.{Head}
 use Rattle.hw_report.specs.declared.report.Head.TheVariants.{Optimal, Infeasible, Unfinished, Memory}
 use Rattle.hw_repair.specs.Repaired.{repaired, own_cargo, own_moved}

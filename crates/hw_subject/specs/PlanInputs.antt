@@ -9,8 +9,8 @@ use Rattle.hw_command.specs.Inputs.{Enters, StopsFor, report_of_stop}
 use Rattle.hw_repair.specs.declared.fault.PlanWord.{PlanWord}
 use Rattle.hw_repair.specs.Repaired.{repaired}
 use Rattle.hw_repair.specs.Words.{plan_word_text}
-use Rattle.hw_derived.specs.declared.fault.LineFault.{LineFault}
-use Rattle.hw_derived.specs.declared.fault.LineFault.TheVariants as faults
+use Rattle.hw_plan_texts.specs.declared.fault.LineFault.{LineFault}
+use Rattle.hw_plan_texts.specs.declared.fault.LineFault.TheVariants as faults
 use Rattle.hw_subject.specs.Plans.{IsPlanOf, IsPlanText}
 use Rattle.hw_subject.specs.declared.plan_input.PlanStop.{PlanStop}
 use Rattle.hw_subject.specs.declared.plan_input.PlanStop.TheVariants as stops

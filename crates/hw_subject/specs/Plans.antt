@@ -2,7 +2,7 @@
 use Rattle.std.specs.Prelude.{◌≡◌, ◌≤◌, ℕ, List, Option, Result, Ok, Err, IfSome, length}
 use Rattle.hw_model.specs.Problem.{Problem}
 use Rattle.hw_command.specs.Values.{most_bytes}
-use Rattle.hw_derived.specs.Reading.{MalformedLine}
+use Rattle.hw_plan_texts.specs.Reading.{MalformedLine}
 use Rattle.hw_repair.specs.Text.{plan_text}
 use Rattle.hw_repair.specs.Wishes.{PlanParts, PlanFits}
 use Rattle.hw_repair.specs.Words.{plan_word_text}

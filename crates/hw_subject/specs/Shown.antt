@@ -1,11 +1,11 @@
 -- What a certificate shows of a subject.
 use Rattle.std.specs.Prelude.{◌≡◌, ℕ, List, Option, All, IfSome, true}
 use Rattle.hw_model.specs.Problem.{shape_of}
-use Rattle.hw_lines.specs.declared.check.Verdict.{Verdict}
-use Rattle.hw_lines.specs.declared.line.Line.{Line}
-use Rattle.hw_lines.specs.Lines.{last_table}
-use Rattle.hw_lines.specs.Tolled.{bound_of}
-use Rattle.hw_lines.specs.Valid.{verdict, LineFits, Valid}
+use Rattle.hw_cert_lines.specs.declared.check.Verdict.{Verdict}
+use Rattle.hw_cert_lines.specs.declared.line.Line.{Line}
+use Rattle.hw_cert_lines.specs.Lines.{last_table}
+use Rattle.hw_cert_lines.specs.Tolled.{bound_of}
+use Rattle.hw_cert_lines.specs.Valid.{verdict, LineFits, Valid}
 use Rattle.hw_cert.specs.declared.version.Version.{Version}
 use Rattle.hw_cert.specs.Laws.{has_form}
 use Rattle.hw_cert.specs.Stream.{cert_stream_to}

@@ -7,12 +7,12 @@ use Rattle.hw_model.specs.Timetables.{Permits, cargo}
 use Rattle.hw_desk.specs.declared.desk.Feed.{Feed}
 use Rattle.hw_desk.specs.declared.desk.Feed.TheVariants as feeds
 use Rattle.hw_flat.specs.TextWritten.{IsWritable}
-use Rattle.hw_derived.specs.Fleets.{lessened}
+use Rattle.hw_plan_texts.specs.Fleets.{lessened}
 use Rattle.hw_audit.specs.Laws.{fewer_tugs}
 use Rattle.hw_port.specs.Whole.{Parts}
 use Rattle.hw_tide.specs.Levels.{TideParts}
-use Rattle.hw_port_rules.specs.Flattened.{flattened}
-use Rattle.hw_port_rules.specs.Permitted.{PortPermits, port_cargo}
+use Rattle.hw_port_model.specs.Flattened.{flattened}
+use Rattle.hw_port_model.specs.Permitted.{PortPermits, port_cargo}
 use Rattle.hw_report.specs.Reports.{Report, Naming, by_number, by_name, bad_text, too_long}
 use Rattle.hw_command.specs.Inputs.{NoFlat}
 use Rattle.hw_command.specs.PortInputs.{NoPort}

@@ -3,13 +3,13 @@ use Rattle.std.specs.Prelude.{ℕ, List, Option, Some, None, Result, Ok, Err, le
 use Rattle.hw_model.specs.Problem.{Problem, shape_of}
 use Rattle.hw_desk.specs.declared.desk.Feed.TheVariants.{Flat, Plan}
 use Rattle.hw_flat.specs.Text.{Fault as FlatFault, flat_text}
-use Rattle.hw_lines.specs.Tolled.{bound_of}
+use Rattle.hw_cert_lines.specs.Tolled.{bound_of}
 use Rattle.hw_cert.specs.declared.version.Version.{Version}
 use Rattle.hw_cert.specs.Stream.{cert_stream_to}
 use Rattle.hw_report.specs.Reports.{Report, Naming, by_number, bad_flat, bad_text, too_long}
 use Rattle.hw_command.specs.Certificates.{cert_outcome_to, report_of}
 use Rattle.hw_command.specs.Values.{most_bytes}
-use Rattle.hw_derived.specs.Reading.{MalformedLine}
+use Rattle.hw_plan_texts.specs.Reading.{MalformedLine}
 use Rattle.hw_repair.specs.Text.{plan_text}
 use Rattle.hw_repair.specs.Words.{plan_word_text}
 use Rattle.hw_repair.specs.declared.fault.PlanWord.{PlanWord}

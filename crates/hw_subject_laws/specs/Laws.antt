@@ -2,11 +2,11 @@
 use Rattle.std.specs.Prelude.{◌≡◌, ◌↔◌, ◌≤◌, ℕ, List, Some, IfSome, slice_get, slice_index}
 use Rattle.hw_model.specs.Problem.{Problem}
 use Rattle.hw_model.specs.Timetables.{IsBest, NonePermitted}
-use Rattle.hw_verdict.specs.Laws.{IsBound}
+use Rattle.hw_cert_laws.specs.Laws.{IsBound}
 use Rattle.hw_port.specs.Whole.{Parts}
 use Rattle.hw_tide.specs.Levels.{TideParts}
-use Rattle.hw_port_rules.specs.Permitted.{PortPermits, port_cargo, IsPortBest, NonePortPermitted}
-use Rattle.hw_port_verdict.specs.Laws.{IsPortBound}
+use Rattle.hw_port_model.specs.Permitted.{PortPermits, port_cargo, IsPortBest, NonePortPermitted}
+use Rattle.hw_subject_laws.specs.Ports.{IsPortBound}
 use Rattle.hw_audit.specs.Laws.{fewer_tugs}
 use Rattle.hw_repair.specs.Repaired.{IsBestRepair, NoRepair}
 use Rattle.hw_repair.specs.Wishes.{PlanParts, Grants, moved}

@@ -9,14 +9,14 @@ use Rattle.hw_model.specs.Rooms.{RoomModel}
 use Rattle.hw_model.specs.Narrowing.{truth, cut}
 use Rattle.hw_model.specs.Replay.{narrowing}
 use Rattle.hw_model.specs.Lits.{IsLitOf}
-use Rattle.hw_laws.proofs.Denials.{lit_of}
-use Rattle.hw_story.specs.declared.event.Event.{Event}
-use Rattle.hw_story.specs.declared.event.Why.{Why}
-use Rattle.hw_story.specs.Trails.{TrailModel, trail_shape, reason_clause, room_of, decided, most_events}
+use Rattle.hw_model_laws.proofs.Denials.{lit_of}
+use Rattle.hw_trail_laws.specs.declared.event.Event.{Event}
+use Rattle.hw_trail_laws.specs.declared.event.Why.{Why}
+use Rattle.hw_trail_laws.specs.Trails.{TrailModel, trail_shape, reason_clause, room_of, decided, most_events}
 use Rattle.hw_model.specs.Rooms.{IsRoomOf}
-use Rattle.hw_story.proofs.Trails.{room_known, room_end}
-use Rattle.hw_story.proofs.Kept.{decided_kept, implied_kept, more_room, level_most}
-use Rattle.hw_story.proofs.Many.{few_events}
+use Rattle.hw_trail_laws.proofs.Trails.{room_known, room_end}
+use Rattle.hw_trail_laws.proofs.Kept.{decided_kept, implied_kept, more_room, level_most}
+use Rattle.hw_trail_laws.proofs.Many.{few_events}
 use Rattle.hw_trail.specs.Kept.{KeepsTrail}
 
 pub most_few : (ships slots : ℕ) → ships ≤ 40 → slots ≤ 513 → most_events ships slots ≤ 21260

@@ -11,23 +11,23 @@ use Rattle.hw_model.specs.Lits.{negation, lit_fits}
 use Rattle.hw_model.specs.Rooms.{RoomModel, IsRoom, low_of, high_of}
 use Rattle.hw_model.specs.Narrowing.{truth}
 use Rattle.hw_model.specs.Lits.{IsLitOf}
-use Rattle.hw_laws.proofs.Denials.{lit_of}
-use Rattle.hw_story.specs.declared.event.Event.{Event}
-use Rattle.hw_story.specs.Sides.{implies}
-use Rattle.hw_story.specs.Knowing.{knows}
-use Rattle.hw_story.specs.Stories.{room_at}
-use Rattle.hw_story.specs.Trails.{TrailModel, trail_shape, room_by, room_before, room_of, with_event, decided, back_to, IsTrail}
-use Rattle.hw_story.specs.Learning.{event_of}
-use Rattle.hw_story.specs.Laws.{IsEventOf}
-use Rattle.hw_story.specs.Bridge.{idle, event_at, story_of}
+use Rattle.hw_model_laws.proofs.Denials.{lit_of}
+use Rattle.hw_trail_laws.specs.declared.event.Event.{Event}
+use Rattle.hw_trail_laws.specs.Sides.{implies}
+use Rattle.hw_trail_laws.specs.Knowing.{knows}
+use Rattle.hw_trail_laws.specs.Stories.{room_at}
+use Rattle.hw_trail_laws.specs.Trails.{TrailModel, trail_shape, room_by, room_before, room_of, with_event, decided, back_to, IsTrail}
+use Rattle.hw_trail_laws.specs.Learning.{event_of}
+use Rattle.hw_trail_laws.specs.Laws.{IsEventOf}
+use Rattle.hw_trail_laws.specs.Bridge.{idle, event_at, story_of}
 use Rattle.hw_model.specs.Rooms.{IsRoomOf}
-use Rattle.hw_story.proofs.Sides.{implied_parts}
-use Rattle.hw_story.proofs.Truth.{free_unknown}
-use Rattle.hw_story.proofs.Trails.{room_known, unknown_at, at_unknown, told_at, room_end, take_all}
-use Rattle.hw_story.proofs.Levels.{at_false, false_at}
-use Rattle.hw_story.proofs.Decisions.{event_is}
-use Rattle.hw_story.proofs.Kept.{decided_kept, take_take}
-use Rattle.hw_story.proofs.Many.{few_events}
+use Rattle.hw_trail_laws.proofs.Sides.{implied_parts}
+use Rattle.hw_trail_laws.proofs.Truth.{free_unknown}
+use Rattle.hw_trail_laws.proofs.Trails.{room_known, unknown_at, at_unknown, told_at, room_end, take_all}
+use Rattle.hw_trail_laws.proofs.Levels.{at_false, false_at}
+use Rattle.hw_trail_laws.proofs.Decisions.{event_is}
+use Rattle.hw_trail_laws.proofs.Kept.{decided_kept, take_take}
+use Rattle.hw_trail_laws.proofs.Many.{few_events}
 use Rattle.hw_trail.specs.Bounds.{range_end, knew, makes, KeepsBounds}
 use Rattle.hw_trail.proofs.Finds.{found, read}
 

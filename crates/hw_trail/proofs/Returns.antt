@@ -4,14 +4,14 @@ use Rattle.hw_model.specs.declared.lit.LitTruth.TheVariants.{Free}
 use Rattle.hw_model.specs.Rooms.{RoomModel}
 use Rattle.hw_model.specs.Narrowing.{truth}
 use Rattle.hw_model.specs.Lits.{IsLitOf}
-use Rattle.hw_laws.proofs.Denials.{lit_of}
+use Rattle.hw_model_laws.proofs.Denials.{lit_of}
 use Rattle.hw_flat.specs.Opened.{opened}
-use Rattle.hw_story.specs.declared.event.Event.{Event}
-use Rattle.hw_story.specs.Trails.{TrailModel, trail_shape, room_before, room_of, IsTrail, back_to}
-use Rattle.hw_story.specs.Bridge.{event_at}
+use Rattle.hw_trail_laws.specs.declared.event.Event.{Event}
+use Rattle.hw_trail_laws.specs.Trails.{TrailModel, trail_shape, room_before, room_of, IsTrail, back_to}
+use Rattle.hw_trail_laws.specs.Bridge.{event_at}
 use Rattle.hw_model.specs.Rooms.{IsRoomOf}
-use Rattle.hw_story.proofs.Trails.{room_known, room_end, told_at}
-use Rattle.hw_story.proofs.Kept.{front_of, back_kept}
+use Rattle.hw_trail_laws.proofs.Trails.{room_known, room_end, told_at}
+use Rattle.hw_trail_laws.proofs.Kept.{front_of, back_kept}
 use Rattle.std.proofs.lemmas.List.{length-take-le}
 use Rattle.hw_trail.specs.Kept.{KeepsTrail, trail_in}
 use Rattle.hw_trail.proofs.Few.{room_ships}

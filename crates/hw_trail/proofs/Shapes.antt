@@ -3,8 +3,8 @@ use Rattle.std.proofs.Common.{◌≡◌, ℕ, length, arith, ap, sym, ◌∙◌}
 use Rattle.hw_model.specs.declared.shape.Shape.{Shape}
 use Rattle.hw_model.specs.Rooms.{RoomModel, whole_room}
 use Rattle.hw_flat.specs.Opened.{shape_in, opened}
-use Rattle.hw_story.specs.Trails.{TrailModel, trail_shape, room_before, room_of, IsTrail}
-use Rattle.hw_story.proofs.Trails.{room_known, room_end}
+use Rattle.hw_trail_laws.specs.Trails.{TrailModel, trail_shape, room_before, room_of, IsTrail}
+use Rattle.hw_trail_laws.proofs.Trails.{room_known, room_end}
 
 abbrev shape_by : ℕ → ℕ → Shape
 shape_by ships slots = record { ships = ships; slots = slots; rules = 0 }

@@ -3,9 +3,9 @@ use Rattle.std.specs.Prelude.{◌≡◌, ℕ, ◌<◌, ◌≤◌, Bool, false, �
 use Rattle.hw_model.specs.declared.lit.Lit.{Lit}
 use Rattle.hw_model.specs.declared.lit.Lit.TheVariants as lits
 use Rattle.hw_model.specs.Rooms.{RoomModel, low_of, high_of}
-use Rattle.hw_story.specs.Sides.{implies}
-use Rattle.hw_story.specs.Bridge.{event_at}
-use Rattle.hw_story.specs.Trails.{TrailModel, room_before, most_events}
+use Rattle.hw_trail_laws.specs.Sides.{implies}
+use Rattle.hw_trail_laws.specs.Bridge.{event_at}
+use Rattle.hw_trail_laws.specs.Trails.{TrailModel, room_before, most_events}
 
 -- the bound of the literal's ship that the literal moves, 0 for an order
 abbrev pub range_end : RoomModel → Lit → ℕ

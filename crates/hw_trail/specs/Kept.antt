@@ -1,8 +1,8 @@
 -- What the type of a trail keeps besides its events.
 use Rattle.std.specs.Prelude.{◌≡◌, ℕ, ◌≤◌, List}
-use Rattle.hw_story.specs.declared.event.Event.{Event}
+use Rattle.hw_trail_laws.specs.declared.event.Event.{Event}
 use Rattle.hw_model.specs.Rooms.{RoomModel}
-use Rattle.hw_story.specs.Trails.{TrailModel, room_of, IsTrail, most_events}
+use Rattle.hw_trail_laws.specs.Trails.{TrailModel, room_of, IsTrail, most_events}
 
 -- the room is the whole one cut by the events, and there is room for all events that can come
 pub record KeepsTrail (t : TrailModel) (room : RoomModel) (capacity : ℕ) : Type 0 where

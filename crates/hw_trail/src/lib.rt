@@ -8,5 +8,5 @@ mod cuts;
 mod implied;
 mod trail;
 
-pub use hw_story::{Event, Why};
+pub use hw_trail_laws::{Event, Why};
 pub use trail::Trail;

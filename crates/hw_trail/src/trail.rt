@@ -7,15 +7,15 @@ ghost use Rattle.hw_model.specs.Lits.{lit_fits, IsClause};
 ghost use Rattle.hw_model.specs.Narrowing.{truth};
 ghost use Rattle.hw_model.specs.Replay.{narrowing};
 ghost use Rattle.hw_model.specs.Problem.{shape_of};
-ghost use Rattle.hw_story.specs.Trails.{IsTrail, trail_shape, reason_clause, room_of, no_events, decided, implied, back_to};
-ghost use Rattle.hw_story.specs.Learning.{event_of};
+ghost use Rattle.hw_trail_laws.specs.Trails.{IsTrail, trail_shape, reason_clause, room_of, no_events, decided, implied, back_to};
+ghost use Rattle.hw_trail_laws.specs.Learning.{event_of};
 
 use crate::bounds::{makes, range_end};
 use crate::cuts::{count_upto, cut_all};
 use hw_flat::{Flat, Room};
 use hw_lits::{cut, truth};
 use hw_model::{Lit, LitTruth, NoMemory};
-use hw_story::{Event, Why};
+use hw_trail_laws::{Event, Why};
 use std::alloc::Global;
 use std::marker::Model;
 
@@ -36,7 +36,7 @@ pub struct Trail {
 
 impl Model for Trail {
     ghost use Rattle.std.specs.Prelude.{vec_capacity};
-    ghost use Rattle.hw_story.specs.Trails.{TrailModel};
+    ghost use Rattle.hw_trail_laws.specs.Trails.{TrailModel};
     ghost use Rattle.hw_trail.specs.Kept.{KeepsTrail};
     ghost use Rattle.hw_trail.specs.Bounds.{KeepsBounds};
 

@@ -10,7 +10,7 @@ use Rattle.hw_model.specs.Limits.{JobFits}
 use Rattle.hw_model.specs.Rooms.{RoomModel, IsRoom, low_of, high_of}
 use Rattle.hw_model.specs.Narrowing.{with_range}
 use Rattle.hw_model.specs.Refuting.{forced_by}
-use Rattle.hw_laws.proofs.Sums.{tugs_changed}
+use Rattle.hw_model_laws.proofs.Sums.{tugs_changed}
 use Rattle.hw_prop.specs.Plain.{range_of}
 use Rattle.hw_prop.specs.Reductions.{reduced, IsQuiet, IsCut}
 use Rattle.hw_prop.specs.declared.reduction.Reduction.{Reduction}

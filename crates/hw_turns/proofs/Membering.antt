@@ -6,25 +6,25 @@ use Rattle.std.proofs.lemmas.List.Elements.{All-append, filter_map-append}
 use Rattle.hw_model.specs.Problem.{Problem}
 use Rattle.hw_model.specs.Timetables.{Permits, cargo, beats}
 use Rattle.hw_desk.specs.State.{Rose}
-use Rattle.hw_lines.specs.declared.line.Line.{Line}
-use Rattle.hw_lines.specs.declared.line.Line.TheVariants as lines
-use Rattle.hw_lines.specs.Tolled.{is_plain}
-use Rattle.hw_lines.specs.Lines.{clause_of, clauses_of, clause_count, is_closed}
-use Rattle.hw_lines.specs.Valid.{LineFits}
-use Rattle.hw_lines.specs.Lemmas.{lemmas_of}
-use Rattle.hw_lines.proofs.Pushed.{table_added}
-use Rattle.hw_story.specs.Trails.{most_events}
+use Rattle.hw_cert_lines.specs.declared.line.Line.{Line}
+use Rattle.hw_cert_lines.specs.declared.line.Line.TheVariants as lines
+use Rattle.hw_cert_lines.specs.Tolled.{is_plain}
+use Rattle.hw_cert_lines.specs.Lines.{clause_of, clauses_of, clause_count, is_closed}
+use Rattle.hw_cert_lines.specs.Valid.{LineFits}
+use Rattle.hw_cert_lines.specs.Lemmas.{lemmas_of}
+use Rattle.hw_cert_lines.proofs.Pushed.{table_added}
+use Rattle.hw_trail_laws.specs.Trails.{most_events}
 use Rattle.hw_cert.specs.Logs.{LogTold, memory_log}
-use Rattle.hw_progress.specs.declared.outcome.Turn.{Turn}
-use Rattle.hw_progress.specs.declared.outcome.Turn.TheVariants as turns
-use Rattle.hw_progress.specs.Searches.{SearchModel, IsSearch, LogFits, best_cargo}
-use Rattle.hw_progress.specs.Turns.{WritesWell, TurnMeets, FitsAfter, lines_of_turn, is_last}
-use Rattle.hw_progress.specs.Offers.{IsBetter, OfferMeets}
-use Rattle.hw_progress.proofs.Turned.{table}
+use Rattle.hw_search_laws.specs.declared.outcome.Turn.{Turn}
+use Rattle.hw_search_laws.specs.declared.outcome.Turn.TheVariants as turns
+use Rattle.hw_search_laws.specs.Searches.{SearchModel, IsSearch, LogFits, best_cargo}
+use Rattle.hw_search_laws.specs.Turns.{WritesWell, TurnMeets, FitsAfter, lines_of_turn, is_last}
+use Rattle.hw_search_laws.specs.Offers.{IsBetter, OfferMeets}
+use Rattle.hw_search_laws.proofs.Turned.{table}
 use Rattle.hw_search.specs.Going.{cargo_rank, most_cargo, turns_left}
 use Rattle.hw_search.proofs.Answering.{tells}
-use Rattle.hw_progress.proofs.OneLemma.{few_lemmas}
-use Rattle.hw_progress.proofs.Heeded.{valid_append, lean_append}
+use Rattle.hw_search_laws.proofs.OneLemma.{few_lemmas}
+use Rattle.hw_search_laws.proofs.Heeded.{valid_append, lean_append}
 use Rattle.hw_search.proofs.Counting.{nearer}
 use Rattle.hw_search.proofs.Plain.{plain_tariff}
 use Rattle.hw_turns.specs.Crewing.{OwnWell}

@@ -1,16 +1,16 @@
 -- A search without advice implies nothing by prices.
 use Rattle.std.proofs.Common.{◌≡◌, ℕ, ◌+◌, Bool, true, false, cond, List, [], ◌∷◌, ◌++◌, Option, Some, None, IsSomeAnd, refl, ap, ◌∙◌}
 use Rattle.hw_model.specs.declared.lit.Lit.{Lit}
-use Rattle.hw_story.specs.declared.event.Why.{Why}
-use Rattle.hw_story.specs.Trails.{decided}
+use Rattle.hw_trail_laws.specs.declared.event.Why.{Why}
+use Rattle.hw_trail_laws.specs.Trails.{decided}
 use Rattle.hw_cert.specs.Logs.{LogModel}
-use Rattle.hw_progress.specs.declared.outcome.Turn.{Turn}
-use Rattle.hw_progress.specs.declared.outcome.Turn.TheVariants as turns
-use Rattle.hw_progress.specs.Branches.{branch_literal}
-use Rattle.hw_progress.specs.Searches.{SearchModel, room_in}
-use Rattle.hw_progress.specs.Settling.{Implies}
-use Rattle.hw_progress.specs.Turns.{cited, cite_conflict, with_lemma, to_level, restart_is_due, gone_back, is_last, DoesDecide, TurnDoes}
-use Rattle.hw_progress.proofs.Stops.{numbers_kept}
+use Rattle.hw_search_laws.specs.declared.outcome.Turn.{Turn}
+use Rattle.hw_search_laws.specs.declared.outcome.Turn.TheVariants as turns
+use Rattle.hw_search_laws.specs.Branches.{branch_literal}
+use Rattle.hw_search_laws.specs.Searches.{SearchModel, room_in}
+use Rattle.hw_search_laws.specs.Settling.{Implies}
+use Rattle.hw_search_laws.specs.Turns.{cited, cite_conflict, with_lemma, to_level, restart_is_due, gone_back, is_last, DoesDecide, TurnDoes}
+use Rattle.hw_search_laws.proofs.Stops.{numbers_kept}
 
 gone_priced : (u : SearchModel) (back : ℕ) → (gone_back u back).priced ≡ u.priced
 gone_priced u back = by (restart_is_due u)

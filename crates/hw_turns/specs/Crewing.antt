@@ -1,18 +1,18 @@
 -- What is kept of a crew: the lines that were handed on, told or not, the pages and the board.
 use Rattle.std.specs.Prelude.{◌≡◌, ℕ, ◌<◌, true, List, [], Some, All, length, take, slice_get, slice_set}
 use Rattle.hw_model.specs.Problem.{Problem}
-use Rattle.hw_lines.specs.declared.line.Line.{Line}
-use Rattle.hw_lines.specs.Tolled.{is_plain}
-use Rattle.hw_lines.specs.Lines.{clause_count, last_table, is_closed}
-use Rattle.hw_lines.specs.Valid.{LineFits, Valid}
-use Rattle.hw_lines.specs.Lemmas.{lemmas_of, IsNew, IsLean}
+use Rattle.hw_cert_lines.specs.declared.line.Line.{Line}
+use Rattle.hw_cert_lines.specs.Tolled.{is_plain}
+use Rattle.hw_cert_lines.specs.Lines.{clause_count, last_table, is_closed}
+use Rattle.hw_cert_lines.specs.Valid.{LineFits, Valid}
+use Rattle.hw_cert_lines.specs.Lemmas.{lemmas_of, IsNew, IsLean}
 use Rattle.hw_cert.specs.declared.log.LogStop.{LogStop}
 use Rattle.hw_cert.specs.declared.log.LogStop.TheVariants.{Failed, NoMemory}
 use Rattle.hw_cert.specs.Logs.{LogModel, WhereTold}
-use Rattle.hw_progress.specs.Turns.{FailsAt}
-use Rattle.hw_ledger.specs.Handing.{StopCause}
-use Rattle.hw_crew.specs.Pages.{Page}
-use Rattle.hw_crew.specs.Crews.{Shared}
+use Rattle.hw_search_laws.specs.Turns.{FailsAt}
+use Rattle.hw_search_ledger.specs.Handing.{StopCause}
+use Rattle.hw_cert_crews.specs.Pages.{Page}
+use Rattle.hw_cert_crews.specs.Crews.{Shared}
 use Rattle.hw_turns.specs.declared.board.Board.{Board}
 use Rattle.hw_turns.specs.declared.handing.OwnLines.{OwnLines}
 

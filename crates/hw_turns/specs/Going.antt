@@ -4,16 +4,16 @@ use Rattle.std.specs.List.{list_any}
 use Rattle.hw_model.specs.Problem.{Problem}
 use Rattle.hw_model.specs.Limits.{IsFlat}
 use Rattle.hw_model.specs.Timetables.{cargo}
-use Rattle.hw_lines.specs.declared.line.Line.{Line}
-use Rattle.hw_lines.specs.Lines.{is_closed}
+use Rattle.hw_cert_lines.specs.declared.line.Line.{Line}
+use Rattle.hw_cert_lines.specs.Lines.{is_closed}
 use Rattle.hw_cert.specs.declared.log.LogStop.TheVariants as stops
 use Rattle.hw_cert.specs.Logs.{LogModel}
-use Rattle.hw_progress.specs.declared.outcome.Branching.{Branching}
-use Rattle.hw_progress.specs.declared.outcome.Turn.{Turn}
-use Rattle.hw_progress.specs.declared.outcome.Turn.TheVariants as turns
-use Rattle.hw_progress.specs.Turns.{is_last}
+use Rattle.hw_search_laws.specs.declared.outcome.Branching.{Branching}
+use Rattle.hw_search_laws.specs.declared.outcome.Turn.{Turn}
+use Rattle.hw_search_laws.specs.declared.outcome.Turn.TheVariants as turns
+use Rattle.hw_search_laws.specs.Turns.{is_last}
 use Rattle.hw_search.specs.Going.{turns_left}
-use Rattle.hw_crew.specs.Pages.{Page}
+use Rattle.hw_cert_crews.specs.Pages.{Page}
 use Rattle.hw_turns.specs.declared.board.Board.{Board}
 use Rattle.hw_turns.specs.declared.member.Member.{Member}
 use Rattle.hw_turns.specs.declared.outcome.Crewed.{Crewed}

@@ -1,10 +1,10 @@
 -- Turns of one search, one after another, that bring no lemma.
 use Rattle.std.specs.Prelude.{◌≡◌, ◌⊎◌, ℕ, zero, suc, ◌+◌, ◌≤◌, List, Some, ⊤}
-use Rattle.hw_story.specs.Trails.{most_events}
+use Rattle.hw_trail_laws.specs.Trails.{most_events}
 use Rattle.hw_cert.specs.Logs.{LogModel}
-use Rattle.hw_progress.specs.Searches.{SearchModel, IsSearch}
-use Rattle.hw_progress.specs.Turns.{DoesDecide, DoesBetter}
-use Rattle.hw_progress.specs.Offers.{IsBetter}
+use Rattle.hw_search_laws.specs.Searches.{SearchModel, IsSearch}
+use Rattle.hw_search_laws.specs.Turns.{DoesDecide, DoesBetter}
+use Rattle.hw_search_laws.specs.Offers.{IsBetter}
 
 -- a better timetable was offered, or none; what it left is a search
 abbrev pub Offered : SearchModel → SearchModel → Type 0

@@ -3,19 +3,19 @@ use Rattle.std.specs.Prelude.{◌≡◌, ℕ, ◌+◌, ◌<◌, ◌≤◌, false
 use Rattle.hw_model.specs.Timetables.{cargo, beats}
 use Rattle.hw_model.specs.Problem.{Problem}
 use Rattle.hw_desk.specs.State.{Rose}
-use Rattle.hw_lines.specs.declared.line.Line.{Line}
-use Rattle.hw_lines.specs.Lines.{clause_count, is_closed}
-use Rattle.hw_lines.specs.Lemmas.{lemmas_of}
-use Rattle.hw_story.specs.Trails.{most_events}
+use Rattle.hw_cert_lines.specs.declared.line.Line.{Line}
+use Rattle.hw_cert_lines.specs.Lines.{clause_count, is_closed}
+use Rattle.hw_cert_lines.specs.Lemmas.{lemmas_of}
+use Rattle.hw_trail_laws.specs.Trails.{most_events}
 use Rattle.hw_cert.specs.declared.log.LogStop.{LogStop}
 use Rattle.hw_cert.specs.declared.log.LogStop.TheVariants as stops
 use Rattle.hw_cert.specs.Logs.{LogModel, Grows}
-use Rattle.hw_progress.specs.declared.outcome.Turn.{Turn}
-use Rattle.hw_progress.specs.declared.outcome.Turn.TheVariants as turns
-use Rattle.hw_progress.specs.Searches.{SearchModel, IsSearch, LogFits}
-use Rattle.hw_progress.specs.Turns.{is_last}
+use Rattle.hw_search_laws.specs.declared.outcome.Turn.{Turn}
+use Rattle.hw_search_laws.specs.declared.outcome.Turn.TheVariants as turns
+use Rattle.hw_search_laws.specs.Searches.{SearchModel, IsSearch, LogFits}
+use Rattle.hw_search_laws.specs.Turns.{is_last}
 use Rattle.hw_search.specs.Going.{turns_left}
-use Rattle.hw_crew.specs.Pages.{Page}
+use Rattle.hw_cert_crews.specs.Pages.{Page}
 use Rattle.hw_turns.specs.declared.board.Board.{Board}
 use Rattle.hw_turns.specs.Crewing.{IsSaid, Crewing, OwnWell, StopSays}
 

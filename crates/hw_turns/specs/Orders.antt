@@ -1,8 +1,8 @@
 -- The order in which searchers take turns.
 use Rattle.std.specs.Prelude.{ℕ, Bool, true, false, List, [], ◌∷◌, filter, length}
 use Rattle.std.specs.List.{list_any}
-use Rattle.hw_progress.specs.declared.outcome.Branching.{Branching}
-use Rattle.hw_progress.specs.declared.outcome.Branching.TheVariants.{Greatest, Earliest, Latest}
+use Rattle.hw_search_laws.specs.declared.outcome.Branching.{Branching}
+use Rattle.hw_search_laws.specs.declared.outcome.Branching.TheVariants.{Greatest, Earliest, Latest}
 
 -- the rules are one
 abbrev pub same_rule : Branching → Branching → Bool

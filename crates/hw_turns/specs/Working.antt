@@ -4,15 +4,15 @@ use Rattle.hw_model.specs.Problem.{Problem}
 use Rattle.hw_model.specs.Timetables.{Permits, cargo, IsBest, NonePermitted}
 use Rattle.hw_model.specs.Rooms.{room_count}
 use Rattle.hw_desk.specs.State.{Rose}
-use Rattle.hw_lines.specs.declared.line.Line.{Line}
-use Rattle.hw_lines.specs.Tolled.{is_plain}
-use Rattle.hw_lines.specs.Lines.{last_table, is_closed, ends}
-use Rattle.hw_lines.specs.Valid.{LineFits, Valid}
-use Rattle.hw_lines.specs.Lemmas.{lemmas_of, IsLean}
+use Rattle.hw_cert_lines.specs.declared.line.Line.{Line}
+use Rattle.hw_cert_lines.specs.Tolled.{is_plain}
+use Rattle.hw_cert_lines.specs.Lines.{last_table, is_closed, ends}
+use Rattle.hw_cert_lines.specs.Valid.{LineFits, Valid}
+use Rattle.hw_cert_lines.specs.Lemmas.{lemmas_of, IsLean}
 use Rattle.hw_cert.specs.Logs.{LogModel, WhereTold, IsWhole, Grows}
-use Rattle.hw_progress.specs.declared.outcome.Branching.{Branching}
-use Rattle.hw_progress.specs.Turns.{FailsAt}
-use Rattle.hw_crew.specs.Crews.{NewAmong}
+use Rattle.hw_search_laws.specs.declared.outcome.Branching.{Branching}
+use Rattle.hw_search_laws.specs.Turns.{FailsAt}
+use Rattle.hw_cert_crews.specs.Crews.{NewAmong}
 use Rattle.hw_turns.specs.Orders.{searcher_count}
 use Rattle.hw_turns.specs.declared.outcome.Crewed.{Crewed}
 use Rattle.hw_turns.specs.declared.outcome.Crewed.TheVariants.{Optimal, Infeasible, Spent, NoMemory, LogFailed}

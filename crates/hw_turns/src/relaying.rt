@@ -4,11 +4,11 @@ ghost use Rattle.std.specs.Prelude.{◌≡◌, ◌+◌, ◌^◌, ◌<◌, false,
 ghost use Rattle.std.specs.Option.{option_map_or};
 ghost use Rattle.hw_model.specs.Problem.{IsTimetable};
 ghost use Rattle.hw_model.specs.Timetables.{beats, cargo};
-ghost use Rattle.hw_lines.specs.Lines.{clause_of, table_after};
-ghost use Rattle.hw_lines.specs.Valid.{LineFits};
-ghost use Rattle.hw_lines.specs.Lemmas.{lemma_of};
+ghost use Rattle.hw_cert_lines.specs.Lines.{clause_of, table_after};
+ghost use Rattle.hw_cert_lines.specs.Valid.{LineFits};
+ghost use Rattle.hw_cert_lines.specs.Lemmas.{lemma_of};
 ghost use Rattle.hw_cert.specs.Logs.{IsWhole};
-ghost use Rattle.hw_crew.specs.Pages.{shared_number, renumbered, is_handed, with_clause_number};
+ghost use Rattle.hw_cert_crews.specs.Pages.{shared_number, renumbered, is_handed, with_clause_number};
 ghost use Rattle.hw_turns.specs.Relaying.{Relays, board_after};
 
 use crate::board::Board;

@@ -2,9 +2,9 @@
 use Rattle.std.proofs.Common.{◌≡◌, List, [], subst, sym}
 use Rattle.hw_model.specs.Problem.{Problem}
 use Rattle.hw_model.specs.Limits.{IsFlat}
-use Rattle.hw_lines.specs.declared.line.Line.{Line}
-use Rattle.hw_progress.specs.declared.outcome.Branching.{Branching}
-use Rattle.hw_progress.specs.Searches.{SearchModel, new_search}
+use Rattle.hw_cert_lines.specs.declared.line.Line.{Line}
+use Rattle.hw_search_laws.specs.declared.outcome.Branching.{Branching}
+use Rattle.hw_search_laws.specs.Searches.{SearchModel, new_search}
 use Rattle.hw_turns.specs.Members.{Working}
 use Rattle.hw_turns.proofs.Crews.{new_working}
 

@@ -22,7 +22,7 @@ fn solve_text(alloc: Global, flat: &Flat, budget: u32) -> Result<String, Fail> {
     Ok(format!(in alloc; "{:?}", log.lines())?)
 }
 
-// Smaller problems are among the whole runs of `tidewise_rows`.
+// Smaller problems are among the whole runs of `tidewise_cases`.
 #[test]
 fn greatest_alone_is_a_solution(rt: HostRuntime) -> Result<(), Fail> {
     let alloc = rt.alloc();

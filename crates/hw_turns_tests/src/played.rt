@@ -2,7 +2,7 @@
 //! number of turns of the order, which is offered the best timetable of all before.
 
 ghost use Rattle.std.specs.Prelude.{◌≡◌, ◌≤◌, false, IfOk, length};
-ghost use Rattle.hw_progress.specs.Turns.{is_last};
+ghost use Rattle.hw_search_laws.specs.Turns.{is_last};
 ghost use Rattle.hw_turns.specs.Members.{Working};
 
 use crate::player::{Player, is_timetable};

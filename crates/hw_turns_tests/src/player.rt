@@ -4,14 +4,14 @@ ghost use Rattle.std.specs.Prelude.{◌≡◌, ◌<◌, false, IfOk, IfSome, IsT
 ghost use Rattle.std.specs.Option.{option_copied};
 ghost use Rattle.hw_model.specs.Problem.{IsTimetable};
 ghost use Rattle.hw_model.specs.Timetables.{Permits};
-ghost use Rattle.hw_progress.specs.Turns.{is_last};
+ghost use Rattle.hw_search_laws.specs.Turns.{is_last};
 ghost use Rattle.hw_turns.specs.Members.{Working, Caught, CargoIsAbove, TurnsOwn, UnlessStopped};
 
 use hw_cert::MemoryLog;
 use hw_flat::{Flat, NoMemory, Timetable};
 use hw_rules::{broken, cargo};
 use hw_search::{Branching, Search, Turn};
-use hw_sources::{AnyPropagator, propagators};
+use hw_search_sources::{AnyPropagator, propagators};
 use hw_store::WatchStore;
 use std::alloc::Global;
 

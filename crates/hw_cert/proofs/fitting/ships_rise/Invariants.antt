@@ -1,5 +1,5 @@
 use Rattle.std.proofs.Common.{◌≡◌, drop, map}
-use Rattle.hw_tolls.specs.declared.toll.Block.{Block}
+use Rattle.hw_price_laws.specs.declared.toll.Block.{Block}
 use Rattle.hw_cert.specs.Fits.{ascends, rises}
 use Rattle.hw_cert.proofs.fitting.ships_rise.Given as goal
 

@@ -1,5 +1,5 @@
 use Rattle.std.proofs.Common.{◌≡◌, drop, map}
-use Rattle.hw_tolls.specs.declared.tariff.Due.{Due}
+use Rattle.hw_price_laws.specs.declared.tariff.Due.{Due}
 use Rattle.hw_cert.specs.Fits.{ascends}
 use Rattle.hw_cert.proofs.fitting.tolls_ascend.Given as goal
 

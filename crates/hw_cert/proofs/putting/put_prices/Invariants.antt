@@ -1,7 +1,7 @@
 use Rattle.std.proofs.Common.{◌≡◌, true, take, map}
 use Rattle.std.specs.List.{list_all}
 use Rattle.hw_desk.specs.Writers.{Puts}
-use Rattle.hw_tolls.specs.declared.tariff.Due.{Due}
+use Rattle.hw_price_laws.specs.declared.tariff.Due.{Due}
 use Rattle.hw_cert.specs.Worded.{prices_text}
 use Rattle.hw_cert.specs.Laws.{is_small, is_wide}
 use Rattle.hw_cert.proofs.putting.put_prices.Given as goal

@@ -1,6 +1,6 @@
 use Rattle.std.proofs.Common.{◌<◌, ◌^◌, arith}
 use Rattle.std.proofs.lemmas.Int.{ints}
-use Rattle.hw_port_rules.specs.Numbers.{horizon_of}
+use Rattle.hw_port_model.specs.Numbers.{horizon_of}
 use Rattle.hw_chart_laws.proofs.PortReading.{port_back}
 use Rattle.hw_chart_laws.proofs.laws.port_plans_read_back.Goals as goal
 

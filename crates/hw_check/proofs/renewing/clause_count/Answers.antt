@@ -1,5 +1,5 @@
 use Rattle.std.proofs.Common.{◌+◌, ◌∙◌, sym, arith}
-use Rattle.hw_lines.proofs.Live.{count_front}
+use Rattle.hw_cert_lines.proofs.Live.{count_front}
 use Rattle.hw_check.proofs.Marking.{count_next, numbered_one, numbered_none}
 use Rattle.hw_check.proofs.renewing.clause_count.Goals as goal
 use Rattle.hw_check.proofs.renewing.clause_count.Goals.{then-has_number, else-has_number}

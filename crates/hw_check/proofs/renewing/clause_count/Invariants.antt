@@ -1,5 +1,5 @@
 use Rattle.std.proofs.Common.{◌≡◌, take}
-use Rattle.hw_lines.specs.Lines as counting
+use Rattle.hw_cert_lines.specs.Lines as counting
 use Rattle.hw_check.proofs.renewing.clause_count.Given as goal
 
 abbrev pub invariant-loop-line : goal.invariant-loop-line

@@ -1,5 +1,5 @@
 use Rattle.std.proofs.Common.{◌≡◌, ◌+◌, ◌-◌, ◌∙◌, sym, arith}
-use Rattle.hw_lines.specs.Lines.{clause_of}
+use Rattle.hw_cert_lines.specs.Lines.{clause_of}
 use Rattle.hw_check.proofs.Marking.{number_below, hints_below, one_at_least, one_written, numbered_one, numbered_none, numbers_of}
 use Rattle.hw_check.proofs.renewing.renewed_backwards.Goals as goal
 

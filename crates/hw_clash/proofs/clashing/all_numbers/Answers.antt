@@ -1,5 +1,5 @@
 use Rattle.std.proofs.Common.{◌++◌, [], ◌∷◌, List, ℕ, sym, ap, ◌∙◌}
-use Rattle.hw_derived.proofs.Grids.{numbers_more}
+use Rattle.hw_plan_texts.proofs.Grids.{numbers_more}
 use Rattle.hw_clash.proofs.clashing.all_numbers.Goals as goal
 
 pub loop-n-preserved : goal.loop-n-preserved

@@ -1,6 +1,6 @@
 use Rattle.std.proofs.Common.{◌≡◌, List, Option, ℕ, ◌++◌, [], ◌∷◌, append_assoc, ap, sym, ◌∙◌}
-use Rattle.hw_derived.specs.Grids.{row_of}
-use Rattle.hw_derived.proofs.Grids.{row_more}
+use Rattle.hw_plan_texts.specs.Grids.{row_of}
+use Rattle.hw_plan_texts.proofs.Grids.{row_more}
 use Rattle.hw_clash.specs.Parts.{part_value}
 use Rattle.hw_clash.proofs.Parts.{value_by, refused_by}
 use Rattle.hw_clash.proofs.parting.put_row.Goals as goal

@@ -1,6 +1,6 @@
 use Rattle.std.proofs.Common.{◌≡◌, None, subst}
-use Rattle.hw_lines.specs.Kept.{Kept}
-use Rattle.hw_lines.specs.Refusals.{kept_refusal}
+use Rattle.hw_cert_lines.specs.Kept.{Kept}
+use Rattle.hw_cert_lines.specs.Refusals.{kept_refusal}
 use Rattle.hw_command.proofs.Checked.{valid_comes, line_refused, none_had}
 use Rattle.hw_command.proofs.Kept.{line_count, line_read_on}
 use Rattle.hw_command.proofs.cert.check_line.Goals as goal

@@ -2,7 +2,7 @@ use Rattle.std.proofs.Common.{◌≡◌, ◌-◌, ◌^◌, ℕ, List, []}
 use Rattle.hw_desk.specs.Calls.{Moves}
 use Rattle.hw_desk.specs.declared.desk.Feed.TheVariants.{Certificate}
 use Rattle.hw_cert.specs.Nexts.{rest_of}
-use Rattle.hw_lines.specs.declared.line.Line.{Line}
+use Rattle.hw_cert_lines.specs.declared.line.Line.{Line}
 use Rattle.hw_command.specs.Checking.{IsReady, rest_outcome}
 use Rattle.hw_command.specs.Keeping.{rest_read}
 use Rattle.hw_command.proofs.Taken.{Taken}

@@ -1,7 +1,7 @@
 use Rattle.std.proofs.Common.{◌≡◌, ◌+◌, ◌≤◌, ◌-◌, sym, subst, arith}
 use Rattle.hw_model.specs.Rooms.{RoomModel, RoomFits, low_of, high_of}
 use Rattle.hw_model.specs.Refuting.{greatest_value, greatest_sum}
-use Rattle.hw_laws.proofs.Alikes.{values_alike}
+use Rattle.hw_model_laws.proofs.Alikes.{values_alike}
 use Rattle.hw_goal.proofs.Greatest.{greatest_inner, greatest_wider}
 use Rattle.hw_goal.proofs.Wider.{sum_wider}
 use Rattle.hw_goal.proofs.widening.widen_ship.Goals as goal

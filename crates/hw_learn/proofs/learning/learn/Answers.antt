@@ -2,9 +2,9 @@ use Rattle.std.proofs.Common.{◌≡◌, ◌≤◌, arith, ◌∙◌, List, None
 use Rattle.hw_model.specs.declared.lit.Lit.{Lit}
 use Rattle.hw_model.specs.Lits.{lit_fits}
 use Rattle.hw_model.specs.Lits.{IsLitOf}
-use Rattle.hw_story.specs.Trails.{trail_shape}
-use Rattle.hw_story.specs.Passes.{DeniesAll}
-use Rattle.hw_story.specs.Knowing.{knows}
+use Rattle.hw_trail_laws.specs.Trails.{trail_shape}
+use Rattle.hw_trail_laws.specs.Passes.{DeniesAll}
+use Rattle.hw_trail_laws.specs.Knowing.{knows}
 use Rattle.hw_model.specs.Rooms.{whole_room}
 use Rattle.hw_lits.proofs.Forms.{lits_from}
 use Rattle.hw_learn.specs.Sames.{OfTrail}

@@ -2,9 +2,9 @@ use Rattle.std.proofs.Common.{rules, ◌+◌, ◌<◌, subst, sym, ◌∙◌, ar
 use Rattle.hw_model.specs.declared.lit.Lit.{Lit}
 use Rattle.hw_model.specs.declared.lit.Lit.TheVariants as lits
 use Rattle.hw_model.specs.Lits.{IsLitOf}
-use Rattle.hw_story.specs.Knowing.{knows, always}
-use Rattle.hw_story.specs.Passes.{MostOf, NothingOf}
-use Rattle.hw_story.proofs.Mosts.{nothing_low, most_low, nothing_high, most_high, nothing_first, most_first, nothing_not_first, most_not_first}
+use Rattle.hw_trail_laws.specs.Knowing.{knows, always}
+use Rattle.hw_trail_laws.specs.Passes.{MostOf, NothingOf}
+use Rattle.hw_trail_laws.proofs.Mosts.{nothing_low, most_low, nothing_high, most_high, nothing_first, most_first, nothing_not_first, most_not_first}
 use Rattle.hw_learn.proofs.sides.most.Goals as goal
 
 pub returns-then-slot-eq0-clause-most : goal.returns-then-slot-eq0-clause-most

@@ -1,9 +1,9 @@
 use Rattle.std.proofs.Common.{◌≡◌, ◌∙◌, ℕ, All, sym, ap, subst}
 use Rattle.hw_model.specs.Rooms.{RoomModel, whole_room}
 use Rattle.hw_model.specs.Lits.{IsLitOf}
-use Rattle.hw_story.specs.Knowing.{knows}
-use Rattle.hw_story.specs.Trails.{trail_shape}
-use Rattle.hw_story.specs.Passes.{DeniesAll}
+use Rattle.hw_trail_laws.specs.Knowing.{knows}
+use Rattle.hw_trail_laws.specs.Trails.{trail_shape}
+use Rattle.hw_trail_laws.specs.Passes.{DeniesAll}
 use Rattle.hw_trail.proofs.Shapes.{opened_is}
 use Rattle.hw_learn.proofs.starting.denied_by.Goals as goal
 

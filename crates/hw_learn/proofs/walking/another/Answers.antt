@@ -1,8 +1,8 @@
 use Rattle.std.proofs.Common.{◌≡◌, ◌-◌, ◌+◌, ℕ, arith, sym, subst}
 use Rattle.std.proofs.lemmas.Bool.{MatchBool-at_false}
-use Rattle.hw_story.specs.Knowing.{knows}
-use Rattle.hw_story.specs.Bridge.{story_of}
-use Rattle.hw_story.specs.Passes.{NoHit}
+use Rattle.hw_trail_laws.specs.Knowing.{knows}
+use Rattle.hw_trail_laws.specs.Bridge.{story_of}
+use Rattle.hw_trail_laws.specs.Passes.{NoHit}
 use Rattle.hw_learn.proofs.Hits.{no_hit_lower}
 use Rattle.hw_learn.proofs.walking.another.Goals as goal
 

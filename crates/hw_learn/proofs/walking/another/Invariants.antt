@@ -1,7 +1,7 @@
 use Rattle.std.proofs.Common.{◌≤◌}
-use Rattle.hw_story.specs.Knowing.{knows}
-use Rattle.hw_story.specs.Bridge.{story_of}
-use Rattle.hw_story.specs.Passes.{NoHit}
+use Rattle.hw_trail_laws.specs.Knowing.{knows}
+use Rattle.hw_trail_laws.specs.Bridge.{story_of}
+use Rattle.hw_trail_laws.specs.Passes.{NoHit}
 use Rattle.hw_learn.proofs.walking.another.Given as goal
 
 abbrev pub invariant-loop-earlier : goal.invariant-loop-earlier

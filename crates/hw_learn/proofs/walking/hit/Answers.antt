@@ -1,6 +1,6 @@
 use Rattle.std.proofs.Common.{◌≡◌, ◌↔◌, true, Some, subst}
 use Rattle.hw_model.specs.declared.lit.Lit.{Lit}
-use Rattle.hw_story.specs.Learning.{event_of}
+use Rattle.hw_trail_laws.specs.Learning.{event_of}
 use Rattle.hw_learn.proofs.Hits.{none_answer, exact_answer}
 use Rattle.hw_learn.proofs.walking.hit.Goals as goal
 

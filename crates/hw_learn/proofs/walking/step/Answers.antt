@@ -2,15 +2,15 @@ use Rattle.std.proofs.Common.{◌≡◌, ap, sym, ◌∙◌, ℕ, subst, None, S
 use Rattle.std.proofs.lemmas.Bool.{MatchBool-at_true}
 use Rattle.std.specs.Prelude.{option_map}
 use Rattle.hw_model.specs.declared.lit.Lit.{Lit}
-use Rattle.hw_story.specs.declared.event.Event.{Event}
+use Rattle.hw_trail_laws.specs.declared.event.Event.{Event}
 use Rattle.hw_model.specs.Lits.{IsLitOf}
 use Rattle.hw_lits.proofs.Forms.{lits_from}
-use Rattle.hw_story.specs.Knowing.{knows, widened}
-use Rattle.hw_story.specs.Trails.{trail_shape, reason, reason_clause}
-use Rattle.hw_story.specs.Bridge.{story_of, event_at}
-use Rattle.hw_story.specs.Passes.{DeniesOthers}
-use Rattle.hw_story.proofs.Passes.{step_decision, step_resolve}
-use Rattle.hw_story.proofs.Learnt.{reason_fits}
+use Rattle.hw_trail_laws.specs.Knowing.{knows, widened}
+use Rattle.hw_trail_laws.specs.Trails.{trail_shape, reason, reason_clause}
+use Rattle.hw_trail_laws.specs.Bridge.{story_of, event_at}
+use Rattle.hw_trail_laws.specs.Passes.{DeniesOthers}
+use Rattle.hw_trail_laws.proofs.Passes.{step_decision, step_resolve}
+use Rattle.hw_trail_laws.proofs.Learnt.{reason_fits}
 use Rattle.hw_learn.proofs.Hits.{at_event, start_is, event_lit}
 use Rattle.hw_learn.proofs.walking.step.Goals as goal
 

@@ -1,6 +1,6 @@
 use Rattle.std.proofs.Common.{List, Option, ℕ, ◌++◌, ap, sym, ◌∙◌}
-use Rattle.hw_derived.specs.Grids.{row_of}
-use Rattle.hw_derived.proofs.Grids.{grid_more}
+use Rattle.hw_plan_texts.specs.Grids.{row_of}
+use Rattle.hw_plan_texts.proofs.Grids.{grid_more}
 use Rattle.hw_repair.specs.Repaired.{value_by}
 use Rattle.hw_repair.proofs.repairing.repaired_rows.Goals as goal
 

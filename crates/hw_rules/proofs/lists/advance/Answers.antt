@@ -1,7 +1,7 @@
 use Rattle.std.proofs.Common.{◌≡◌, ◌+◌, ◌-◌, ◌<◌, length, get_or, arith}
 use Rattle.std.proofs.lemmas.Grind.{common_steps}
 use Rattle.std.proofs.lemmas.List.{length-set}
-use Rattle.hw_laws.proofs.Rank.{rank_lt}
+use Rattle.hw_model_laws.proofs.Rank.{rank_lt}
 use Rattle.hw_rules.proofs.Rank.{one_more, wrapped}
 use Rattle.hw_rules.proofs.lists.advance.Goals as goal
 

@@ -1,6 +1,6 @@
 use Rattle.std.proofs.Common.{IfSome, IsSome, sym, subst}
 use Rattle.hw_model.specs.Timetables.{Permits}
-use Rattle.hw_laws.proofs.Permitted.{has_cargo}
+use Rattle.hw_model_laws.proofs.Permitted.{has_cargo}
 use Rattle.hw_search.proofs.solving.proved.Goals as goal
 
 pub unwrap-cargo-requires : goal.unwrap-cargo-requires

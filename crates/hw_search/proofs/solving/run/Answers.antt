@@ -1,11 +1,11 @@
 use Rattle.std.proofs.Common.{◌<◌, Option, List, ℕ, refl, sym, ◌∙◌, subst, IfSome, arith}
 use Rattle.hw_model.specs.Problem.{Problem}
 use Rattle.hw_model.specs.Timetables.{Permits}
-use Rattle.hw_progress.specs.declared.outcome.Solved.TheVariants as answers
-use Rattle.hw_progress.specs.Proving.{IsEndOf}
-use Rattle.hw_progress.specs.Solving.{SolveMeets}
+use Rattle.hw_search_laws.specs.declared.outcome.Solved.TheVariants as answers
+use Rattle.hw_search_laws.specs.Proving.{IsEndOf}
+use Rattle.hw_search_laws.specs.Solving.{SolveMeets}
 use Rattle.hw_search.specs.Going.{Going}
-use Rattle.hw_progress.proofs.LastTurns.{goes}
+use Rattle.hw_search_laws.proofs.LastTurns.{goes}
 use Rattle.hw_search.proofs.Counting.{nearer}
 use Rattle.hw_search.proofs.Solutions.{begins, goes_on, ends_at, stopped, failed, spent, to_fit}
 use Rattle.hw_search.proofs.Faults.{going_keeps, ended_keeps}

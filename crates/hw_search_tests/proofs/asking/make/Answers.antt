@@ -2,7 +2,7 @@ use Rattle.std.proofs.Common.{subst}
 use Rattle.hw_model.specs.Problem.{shape_of}
 use Rattle.hw_model.specs.Limits.{ShapeFits}
 use Rattle.hw_model.specs.Rooms.{whole_room}
-use Rattle.hw_story.proofs.Denials.{whole_of}
+use Rattle.hw_trail_laws.proofs.Denials.{whole_of}
 use Rattle.hw_search_tests.proofs.asking.make.Goals as goal
 
 pub returns-in-Trying-clause-ready : goal.returns-in-Trying-clause-ready

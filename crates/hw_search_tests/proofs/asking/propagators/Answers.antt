@@ -3,9 +3,9 @@ use Rattle.std.proofs.Math.Seq.{take-length}
 use Rattle.std.proofs.lemmas.List.Elements.{All-push, All-same}
 use Rattle.hw_model.specs.Problem.{shape_of}
 use Rattle.hw_model.specs.Rooms.{whole_room}
-use Rattle.hw_progress.specs.Starting.{EachSourceOnce}
-use Rattle.hw_sources.specs.contracts.any.AnyPropagatorPropagator.TheImpl.{source-value, ready-value}
-use Rattle.hw_sources.proofs.Props.{push_source, each_once}
+use Rattle.hw_search_laws.specs.Starting.{EachSourceOnce}
+use Rattle.hw_search_sources.specs.contracts.any.AnyPropagatorPropagator.TheImpl.{source-value, ready-value}
+use Rattle.hw_search_sources.proofs.Props.{push_source, each_once}
 use Rattle.hw_search_tests.proofs.asking.propagators.Goals as goal
 
 pub loop-source-preserved : goal.loop-source-preserved

@@ -1,7 +1,7 @@
 use Rattle.std.proofs.Common.{◌≡◌, All, map, take}
 use Rattle.hw_model.specs.Problem.{shape_of}
 use Rattle.hw_model.specs.Rooms.{whole_room}
-use Rattle.hw_sources.specs.contracts.any.AnyPropagatorPropagator.TheImpl.{source-value, ready-value}
+use Rattle.hw_search_sources.specs.contracts.any.AnyPropagatorPropagator.TheImpl.{source-value, ready-value}
 use Rattle.hw_search_tests.proofs.asking.propagators.Given as goal
 
 abbrev pub invariant-loop-source : goal.invariant-loop-source

@@ -6,7 +6,7 @@ use Rattle.hw_model.specs.declared.lit.Lit.{Lit}
 use Rattle.hw_model.specs.declared.lit.Lit.TheVariants.{AtOrAfter}
 use Rattle.hw_model.specs.declared.lit.LitTruth.TheVariants.{False}
 use Rattle.hw_model.specs.Narrowing.{truth}
-use Rattle.hw_story.specs.Trails.{room_of}
+use Rattle.hw_trail_laws.specs.Trails.{room_of}
 use Rattle.hw_search_tests.proofs.learning.all_false.Goals as goal
 
 pub loop-lit-preserved : goal.loop-lit-preserved

@@ -2,7 +2,7 @@ use Rattle.std.proofs.Common.{◌∙◌, List, None, All, subst, sym}
 use Rattle.hw_model.specs.declared.lit.Lit.{Lit}
 use Rattle.hw_model.specs.Lits.{IsLitOf}
 use Rattle.hw_lits.proofs.Forms.{lits_from}
-use Rattle.hw_story.specs.Trails.{trail_shape}
+use Rattle.hw_trail_laws.specs.Trails.{trail_shape}
 use Rattle.hw_search_tests.proofs.learning.learnt.Goals as goal
 
 pub all_false-requires : goal.all_false-requires

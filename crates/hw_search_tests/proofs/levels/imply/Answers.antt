@@ -3,7 +3,7 @@ use Rattle.hw_model.specs.declared.lit.Lit.{Lit}
 use Rattle.hw_model.specs.declared.shape.Shape.{Shape}
 use Rattle.hw_model.specs.Lits.{IsLitOf}
 use Rattle.hw_lits.proofs.Forms.{lits_from}
-use Rattle.hw_story.specs.Trails.{trail_shape}
+use Rattle.hw_trail_laws.specs.Trails.{trail_shape}
 use Rattle.hw_trail.proofs.Shapes.{end_shape}
 use Rattle.hw_search_tests.proofs.levels.imply.Goals as goal
 

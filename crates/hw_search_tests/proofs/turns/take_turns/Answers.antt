@@ -1,7 +1,7 @@
 use Rattle.std.proofs.Common.{◌≡◌, ◌⊎◌, ◌<◌, false, sym, ap, subst, inl, inr, arith}
-use Rattle.hw_progress.specs.declared.outcome.Turn.{Turn}
-use Rattle.hw_progress.specs.declared.outcome.Turn.TheVariants as turns
-use Rattle.hw_progress.specs.Turns.{is_last}
+use Rattle.hw_search_laws.specs.declared.outcome.Turn.{Turn}
+use Rattle.hw_search_laws.specs.declared.outcome.Turn.TheVariants as turns
+use Rattle.hw_search_laws.specs.Turns.{is_last}
 use Rattle.hw_search.specs.Going.{Going}
 use Rattle.hw_search.proofs.Solutions.{begins, goes_on, to_fit}
 use Rattle.hw_search_tests.proofs.turns.take_turns.Goals as goal

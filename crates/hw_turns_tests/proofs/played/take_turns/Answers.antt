@@ -1,5 +1,5 @@
 use Rattle.std.proofs.Common.{◌≡◌, ◌∙◌, false, sym}
-use Rattle.hw_progress.specs.Turns.{is_last}
+use Rattle.hw_search_laws.specs.Turns.{is_last}
 use Rattle.hw_turns_tests.proofs.played.take_turns.Goals as goal
 
 pub loop-place-init : goal.loop-place-init

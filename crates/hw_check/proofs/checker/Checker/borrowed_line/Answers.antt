@@ -1,7 +1,7 @@
 use Rattle.std.proofs.Common.{◌≡◌, None, Ok, rules}
 use Rattle.hw_model.specs.Limits.{IsFlat}
-use Rattle.hw_lines.specs.Kept.{kept_after}
-use Rattle.hw_lines.specs.Refusals.{kept_refusal}
+use Rattle.hw_cert_lines.specs.Kept.{kept_after}
+use Rattle.hw_cert_lines.specs.Refusals.{kept_refusal}
 use Rattle.hw_check.proofs.Following.{answers}
 use Rattle.hw_check.proofs.checker.Checker.borrowed_line.Goals as goal
 

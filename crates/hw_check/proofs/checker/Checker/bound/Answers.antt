@@ -1,7 +1,7 @@
 use Rattle.std.proofs.Common.{◌≡◌, Option, IfSome, sym, ◌∙◌, subst, rules}
 use Rattle.std.specs.Prelude.{ℕ}
 use Rattle.hw_model.specs.Limits.{IsFlat}
-use Rattle.hw_verdict.specs.Laws.{IsBound}
+use Rattle.hw_cert_laws.specs.Laws.{IsBound}
 use Rattle.hw_check.proofs.Following.{followed_bound, kept_bound}
 use Rattle.hw_check.proofs.checker.Checker.bound.Goals as goal
 

@@ -1,7 +1,7 @@
 use Rattle.std.proofs.Common.{◌≡◌, false, Option, IfOk, subst, rules}
-use Rattle.hw_lines.specs.declared.check.Refusal.{Refusal}
-use Rattle.hw_lines.specs.Lines.{clause_of}
-use Rattle.hw_lines.specs.Refusals.{is_past}
+use Rattle.hw_cert_lines.specs.declared.check.Refusal.{Refusal}
+use Rattle.hw_cert_lines.specs.Lines.{clause_of}
+use Rattle.hw_cert_lines.specs.Refusals.{is_past}
 use Rattle.hw_check.proofs.Following.{open_claim}
 use Rattle.hw_check.proofs.checker.Checker.refusal.Goals as goal
 

@@ -1,7 +1,7 @@
 use Rattle.std.proofs.Common.{◌≡◌, None, sym, subst}
-use Rattle.hw_lines.specs.declared.line.Line.TheVariants as lines
-use Rattle.hw_lines.specs.Refusals.{kept_refusal}
-use Rattle.hw_tolls.specs.Tolls.{IsToll}
+use Rattle.hw_cert_lines.specs.declared.line.Line.TheVariants as lines
+use Rattle.hw_cert_lines.specs.Refusals.{kept_refusal}
+use Rattle.hw_price_laws.specs.Tolls.{IsToll}
 use Rattle.hw_check.proofs.Following.{toll_declared}
 use Rattle.hw_check.proofs.checker.Checker.taken.Goals as goal
 

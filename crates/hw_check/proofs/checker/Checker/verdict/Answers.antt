@@ -1,6 +1,6 @@
 use Rattle.std.proofs.Common.{◌≡◌, sym, ◌∙◌, rules}
-use Rattle.hw_lines.specs.declared.check.Verdict.TheVariants.{Optimal, Infeasible, Unfinished}
-use Rattle.hw_lines.specs.Valid.{verdict_by}
+use Rattle.hw_cert_lines.specs.declared.check.Verdict.TheVariants.{Optimal, Infeasible, Unfinished}
+use Rattle.hw_cert_lines.specs.Valid.{verdict_by}
 use Rattle.hw_check.proofs.Following.{followed_verdict}
 use Rattle.hw_check.proofs.checker.Checker.verdict.Goals as goal
 

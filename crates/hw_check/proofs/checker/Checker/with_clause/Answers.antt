@@ -4,7 +4,7 @@ use Rattle.hw_model.specs.Problem.{shape_of}
 use Rattle.hw_model.specs.Lits.{IsClause}
 use Rattle.hw_model.specs.Lits.{IsLitOf}
 use Rattle.hw_lits.proofs.Forms.{lits_from}
-use Rattle.hw_lines.specs.Kept.{NumberedClause}
+use Rattle.hw_cert_lines.specs.Kept.{NumberedClause}
 use Rattle.hw_check.proofs.Storing.{bounded_push}
 use Rattle.hw_check.proofs.checker.Checker.with_clause.Goals as goal
 

@@ -1,8 +1,8 @@
 use Rattle.std.proofs.Common.{◌≡◌, None, length, sym, subst}
-use Rattle.hw_lines.specs.Refusals.{first_unknown}
-use Rattle.hw_lines.proofs.Priced.{tariff_fits}
-use Rattle.hw_tolls.specs.Prices.{TariffFits}
-use Rattle.hw_verdict.proofs.Priced.{known_from}
+use Rattle.hw_cert_lines.specs.Refusals.{first_unknown}
+use Rattle.hw_cert_lines.proofs.Priced.{tariff_fits}
+use Rattle.hw_price_laws.specs.Prices.{TariffFits}
+use Rattle.hw_cert_laws.proofs.Priced.{known_from}
 use Rattle.hw_check.proofs.checker.Checker.with_tariff.Goals as goal
 
 pub put_in_force-requires-clause-fits : goal.put_in_force-requires-clause-fits

@@ -1,5 +1,5 @@
 use Rattle.std.proofs.Common.{◌<◌, length, sym, subst}
-use Rattle.hw_tolls.specs.Tolls.{IsToll}
+use Rattle.hw_price_laws.specs.Tolls.{IsToll}
 use Rattle.hw_check.proofs.checker.Checker.with_toll.Goals as goal
 
 pub invariant_of-self : goal.invariant_of-self

@@ -1,7 +1,7 @@
 use Rattle.std.proofs.Common.{All}
 use Rattle.std.proofs.lemmas.List.Elements.{All-filter}
 use Rattle.hw_model.specs.Lits.{IsLitOf}
-use Rattle.hw_lines.specs.Kept.{NumberedClause}
+use Rattle.hw_cert_lines.specs.Kept.{NumberedClause}
 use Rattle.hw_check.proofs.checker.Checker.without.Goals as goal
 
 pub invariant_of-self : goal.invariant_of-self

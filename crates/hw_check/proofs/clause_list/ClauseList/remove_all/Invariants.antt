@@ -1,5 +1,5 @@
 use Rattle.std.proofs.Common.{◌≡◌, take}
-use Rattle.hw_lines.specs.Kept.{without}
+use Rattle.hw_cert_lines.specs.Kept.{without}
 use Rattle.hw_check.proofs.clause_list.ClauseList.remove_all.Given as goal
 
 abbrev pub invariant-loop-id : goal.invariant-loop-id

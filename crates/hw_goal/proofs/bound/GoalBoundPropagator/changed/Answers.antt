@@ -1,6 +1,6 @@
 use Rattle.std.proofs.Common.{sym, subst}
 use Rattle.hw_model.specs.Lits.{IsLitOf}
-use Rattle.hw_laws.proofs.Quiets.{cut_fits}
+use Rattle.hw_model_laws.proofs.Quiets.{cut_fits}
 use Rattle.hw_goal.proofs.bound.GoalBoundPropagator.changed.Goals as goal
 
 pub returns-clause-ready : goal.returns-clause-ready

@@ -1,9 +1,9 @@
 use Rattle.std.proofs.Common.{◌∙◌, length, sym, ap, subst, arith}
 use Rattle.std.proofs.lemmas.Result.{err_from_is_err_and}
-use Rattle.hw_progress.specs.Settling.{Implies}
+use Rattle.hw_search_laws.specs.Settling.{Implies}
 use Rattle.hw_search.specs.Askings.{Gains, AskingFails}
 use Rattle.hw_search.specs.Engines.{EngineModel}
-use Rattle.hw_sources.specs.Marks.{ClearWithin}
+use Rattle.hw_search_sources.specs.Marks.{ClearWithin}
 use Rattle.hw_search.proofs.Steps.{implies_more, fails_more, gains_more, as_cut, as_conflict}
 use Rattle.hw_search.proofs.Rounds.{less_left, clear_joined}
 use Rattle.hw_search.proofs.engine.Engine.ask_round.Goals as goal

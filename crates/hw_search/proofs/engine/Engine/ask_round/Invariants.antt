@@ -1,8 +1,8 @@
 use Rattle.std.proofs.Common.{◌≡◌, ◌-◌, ◌+◌, ◌≤◌, true, false, length}
-use Rattle.hw_story.specs.Trails.{most_events}
+use Rattle.hw_trail_laws.specs.Trails.{most_events}
 use Rattle.hw_search.specs.Askings.{Gains}
-use Rattle.hw_progress.specs.Settling.{Implies}
-use Rattle.hw_sources.specs.Marks.{ClearWithin}
+use Rattle.hw_search_laws.specs.Settling.{Implies}
+use Rattle.hw_search_sources.specs.Marks.{ClearWithin}
 use Rattle.hw_search.proofs.engine.Engine.ask_round.Given as goal
 
 abbrev pub invariant-loop-place : goal.invariant-loop-place

@@ -1,6 +1,6 @@
 use Rattle.std.proofs.Common.{◌≡◌, ◌-◌, length}
-use Rattle.hw_story.specs.Trails.{most_events}
-use Rattle.hw_progress.specs.Settling.{Implies}
+use Rattle.hw_trail_laws.specs.Trails.{most_events}
+use Rattle.hw_search_laws.specs.Settling.{Implies}
 use Rattle.hw_search.proofs.engine.Engine.ask_store.Given as goal
 
 abbrev pub invariant-loop-why : goal.invariant-loop-why

@@ -1,9 +1,9 @@
 use Rattle.std.proofs.Common.{◌≡◌, Some, subst, sym}
 use Rattle.hw_model.specs.Rooms.{RoomFits}
-use Rattle.hw_story.specs.Trails.{room_of}
-use Rattle.hw_progress.specs.Branches.{branch_literal}
-use Rattle.hw_progress.specs.Searches.{IsSearch}
-use Rattle.hw_progress.specs.Starting.{Branches}
+use Rattle.hw_trail_laws.specs.Trails.{room_of}
+use Rattle.hw_search_laws.specs.Branches.{branch_literal}
+use Rattle.hw_search_laws.specs.Searches.{IsSearch}
+use Rattle.hw_search_laws.specs.Starting.{Branches}
 use Rattle.hw_search.specs.Engines.{EngineModel}
 use Rattle.hw_search.proofs.Kept.{room_here}
 use Rattle.hw_search.proofs.Turns.{branch_here}

@@ -2,12 +2,12 @@ use Rattle.std.proofs.Common.{◌≡◌, ◌+◌, None, subst, sym, ◌∙◌, a
 use Rattle.hw_model.specs.declared.lit.LitTruth.TheVariants.{Free}
 use Rattle.hw_model.specs.Lits.{IsLitOf}
 use Rattle.hw_model.specs.Narrowing.{truth, cut}
-use Rattle.hw_story.specs.declared.event.Event.{Event}
-use Rattle.hw_story.specs.Trails.{room_of}
-use Rattle.hw_story.proofs.Kept.{more_room}
-use Rattle.hw_progress.specs.Settling.{AllQuiet}
+use Rattle.hw_trail_laws.specs.declared.event.Event.{Event}
+use Rattle.hw_trail_laws.specs.Trails.{room_of}
+use Rattle.hw_trail_laws.proofs.Kept.{more_room}
+use Rattle.hw_search_laws.specs.Settling.{AllQuiet}
 use Rattle.hw_search.specs.Engines.{EngineModel}
-use Rattle.hw_sources.specs.Marks.{MarksPlaces}
+use Rattle.hw_search_sources.specs.Marks.{MarksPlaces}
 use Rattle.hw_search.proofs.Kept.{of_view}
 use Rattle.hw_search.proofs.Turns.{open_in, room_to_decide, kept_decided}
 use Rattle.hw_search.proofs.engine.Engine.decide_by.Goals as goal

@@ -1,8 +1,8 @@
 use Rattle.std.proofs.Common.{sym, subst}
 use Rattle.std.proofs.lemmas.Result.{err_from_is_err_and}
 use Rattle.hw_cert.specs.declared.log.LogStop.TheVariants as stops
-use Rattle.hw_progress.specs.Searches.{SearchModel, IsSearch}
-use Rattle.hw_progress.specs.Advised.{Heeds}
+use Rattle.hw_search_laws.specs.Searches.{SearchModel, IsSearch}
+use Rattle.hw_search_laws.specs.Advised.{Heeds}
 use Rattle.hw_search.specs.Engines.{EngineModel}
 use Rattle.hw_search.specs.Pricing.{HeedStops}
 use Rattle.hw_search.proofs.Advice.{memory_stops}

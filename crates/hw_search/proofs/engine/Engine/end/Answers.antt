@@ -1,5 +1,5 @@
 use Rattle.std.proofs.Common.{refl, ap}
-use Rattle.hw_progress.specs.declared.outcome.Turn.TheVariants as turns
+use Rattle.hw_search_laws.specs.declared.outcome.Turn.TheVariants as turns
 use Rattle.hw_search.specs.Engines.{EngineModel}
 use Rattle.hw_search.specs.Turning.{turn_of, halted}
 use Rattle.hw_search.proofs.Ending.{turned, ends, ends_stopped}

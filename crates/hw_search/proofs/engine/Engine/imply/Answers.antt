@@ -4,12 +4,12 @@ use Rattle.hw_model.specs.declared.narrowing.Narrowed.TheVariants.{Cut}
 use Rattle.hw_model.specs.Lits.{lit_fits, IsClause}
 use Rattle.hw_model.specs.Narrowing.{truth, cut}
 use Rattle.hw_model.specs.Replay.{narrowing}
-use Rattle.hw_story.specs.declared.event.Event.{Event}
-use Rattle.hw_story.specs.Trails.{trail_shape, reason_clause, room_of}
-use Rattle.hw_story.proofs.Kept.{more_room}
-use Rattle.hw_progress.specs.Searches.{room_in, IsReason}
+use Rattle.hw_trail_laws.specs.declared.event.Event.{Event}
+use Rattle.hw_trail_laws.specs.Trails.{trail_shape, reason_clause, room_of}
+use Rattle.hw_trail_laws.proofs.Kept.{more_room}
+use Rattle.hw_search_laws.specs.Searches.{room_in, IsReason}
 use Rattle.hw_search.specs.Engines.{EngineModel}
-use Rattle.hw_sources.specs.Marks.{MarksPlaces}
+use Rattle.hw_search_sources.specs.Marks.{MarksPlaces}
 use Rattle.hw_search.proofs.Kept.{of_view, one_more, kept_implied}
 use Rattle.hw_search.proofs.engine.Engine.imply.Goals as goal
 

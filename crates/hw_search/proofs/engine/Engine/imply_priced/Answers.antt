@@ -1,14 +1,14 @@
 use Rattle.std.proofs.Common.{Some, sym, ap, ◌∙◌, subst}
 use Rattle.std.proofs.lemmas.Result.{err_from_is_err_and}
 use Rattle.hw_model.specs.Narrowing.{cut}
-use Rattle.hw_story.specs.declared.event.Event.{Event}
-use Rattle.hw_story.specs.declared.event.Why.TheVariants as whys
-use Rattle.hw_story.specs.Trails.{room_of}
-use Rattle.hw_story.proofs.Kept.{more_room}
-use Rattle.hw_progress.specs.Searches.{SearchModel, IsSearch}
-use Rattle.hw_progress.specs.Advised.{Heeds}
+use Rattle.hw_trail_laws.specs.declared.event.Event.{Event}
+use Rattle.hw_trail_laws.specs.declared.event.Why.TheVariants as whys
+use Rattle.hw_trail_laws.specs.Trails.{room_of}
+use Rattle.hw_trail_laws.proofs.Kept.{more_room}
+use Rattle.hw_search_laws.specs.Searches.{SearchModel, IsSearch}
+use Rattle.hw_search_laws.specs.Advised.{Heeds}
 use Rattle.hw_search.specs.Engines.{EngineModel}
-use Rattle.hw_sources.specs.Marks.{MarksPlaces}
+use Rattle.hw_search_sources.specs.Marks.{MarksPlaces}
 use Rattle.hw_search.proofs.Kept.{kept_priced, one_priced}
 use Rattle.hw_search.proofs.Heard.{IsNewCut, cut_here, cut_number, cut_search, cut_is, cut_heeds, cut_stops}
 use Rattle.hw_search.proofs.engine.Engine.imply_priced.Goals as goal

@@ -1,12 +1,12 @@
 use Rattle.std.proofs.Common.{◌≡◌, ◌∷◌, [], ℕ, List, Some, IsTrue, refl, subst, sym, ◌∙◌, ap}
 use Rattle.hw_model.specs.Rooms.{RoomModel, RoomFits, point_of}
 use Rattle.hw_model.specs.Timetables.{Permits, cargo, beats}
-use Rattle.hw_lines.specs.declared.line.Line.TheVariants as lines
-use Rattle.hw_progress.specs.declared.outcome.Turn.TheVariants as turns
-use Rattle.hw_progress.specs.Searches.{IsSearch, room_in, best_cargo}
-use Rattle.hw_progress.proofs.Turned.{point_table}
+use Rattle.hw_cert_lines.specs.declared.line.Line.TheVariants as lines
+use Rattle.hw_search_laws.specs.declared.outcome.Turn.TheVariants as turns
+use Rattle.hw_search_laws.specs.Searches.{IsSearch, room_in, best_cargo}
+use Rattle.hw_search_laws.proofs.Turned.{point_table}
 use Rattle.hw_search.specs.Engines.{EngineModel}
-use Rattle.hw_ledger.specs.Handing.{TakesAll, StopsWithin}
+use Rattle.hw_search_ledger.specs.Handing.{TakesAll, StopsWithin}
 use Rattle.hw_search.specs.Turning.{turn_of, halted}
 use Rattle.hw_search.proofs.Kept.{room_here}
 use Rattle.hw_search.proofs.Answering.{better_meets, table_stops}

@@ -3,8 +3,8 @@ use Rattle.hw_model.specs.Rooms.{RoomModel}
 use Rattle.hw_store.specs.declared.store.Stored.{Stored}
 use Rattle.hw_lits.specs.Active.{IsActive}
 use Rattle.hw_store.specs.Stores.{FindsStored, IsNotHeld}
-use Rattle.hw_story.specs.Trails.{reason_clause}
-use Rattle.hw_progress.specs.Searches.{IsSearch}
+use Rattle.hw_trail_laws.specs.Trails.{reason_clause}
+use Rattle.hw_search_laws.specs.Searches.{IsSearch}
 use Rattle.hw_search.specs.Engines.{EngineModel}
 use Rattle.hw_search.specs.Askings.{IsHeldWhy}
 use Rattle.std.specs.Prelude.{List}

@@ -8,9 +8,9 @@ use Rattle.hw_model.specs.declared.source.Source.TheVariants.{Goal}
 use Rattle.hw_model.specs.Problem.{shape_of}
 use Rattle.hw_model.specs.Refuting.{IsSourceOf}
 use Rattle.hw_model.specs.Rooms.{whole_room}
-use Rattle.hw_story.specs.Trails.{TrailModel, room_of, most_events}
+use Rattle.hw_trail_laws.specs.Trails.{TrailModel, room_of, most_events}
 use Rattle.hw_search.specs.Prices.{prices_of}
-use Rattle.hw_sources.specs.Speaking.{TellsSpeakers}
+use Rattle.hw_search_sources.specs.Speaking.{TellsSpeakers}
 use Rattle.hw_search.proofs.Kept.{kept_new}
 use Rattle.hw_search.proofs.engine.Engine.new.Goals as goal
 

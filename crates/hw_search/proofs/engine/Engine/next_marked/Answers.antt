@@ -1,6 +1,6 @@
 use Rattle.std.proofs.Common.{length, ap, subst, arith}
 use Rattle.hw_search.specs.Engines.{EngineModel}
-use Rattle.hw_sources.specs.Marks.{AllClear}
+use Rattle.hw_search_sources.specs.Marks.{AllClear}
 use Rattle.hw_search.proofs.Rounds.{sources_quiet, kept_same}
 use Rattle.hw_search.proofs.engine.Engine.next_marked.Goals as goal
 

@@ -1,6 +1,6 @@
 use Rattle.std.proofs.Common.{true, List, ℕ, Some, refl, subst, ap, ◌∙◌}
-use Rattle.hw_progress.specs.declared.outcome.Turn.TheVariants as turns
-use Rattle.hw_progress.specs.Searches.{IsSearch}
+use Rattle.hw_search_laws.specs.declared.outcome.Turn.TheVariants as turns
+use Rattle.hw_search_laws.specs.Searches.{IsSearch}
 use Rattle.hw_search.specs.Engines.{EngineModel}
 use Rattle.hw_search.specs.Turning.{turn_of}
 use Rattle.hw_search.proofs.Offering.{offered, offer_taken, offer_stopped}

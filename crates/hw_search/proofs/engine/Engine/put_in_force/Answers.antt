@@ -1,7 +1,7 @@
 use Rattle.std.proofs.Common.{sym, subst}
 use Rattle.std.proofs.lemmas.Result.{err_from_is_err_and}
-use Rattle.hw_progress.specs.Searches.{SearchModel, IsSearch}
-use Rattle.hw_progress.specs.Advised.{Heeds}
+use Rattle.hw_search_laws.specs.Searches.{SearchModel, IsSearch}
+use Rattle.hw_search_laws.specs.Advised.{Heeds}
 use Rattle.hw_search.specs.Engines.{EngineModel}
 use Rattle.hw_search.proofs.Heard.{kept_prices, IsNewTariff, forced_is, forced_kept, forced_heeds, forced_stops}
 use Rattle.hw_search.proofs.Kept.{of_view}

@@ -9,9 +9,9 @@ use Rattle.hw_model.specs.Problem.{shape_of}
 use Rattle.hw_model.specs.Replay.{narrowing}
 use Rattle.hw_model.specs.Rooms.{RoomModel}
 use Rattle.hw_lits.proofs.Forms.{clause_lits}
-use Rattle.hw_story.specs.Trails.{reason_clause}
-use Rattle.hw_progress.specs.Searches.{IsSearch, room_in}
-use Rattle.hw_progress.proofs.Holds.{problem_clause}
+use Rattle.hw_trail_laws.specs.Trails.{reason_clause}
+use Rattle.hw_search_laws.specs.Searches.{IsSearch, room_in}
+use Rattle.hw_search_laws.proofs.Holds.{problem_clause}
 use Rattle.hw_search.specs.Engines.{EngineModel}
 use Rattle.hw_search.proofs.Kept.{room_here}
 use Rattle.hw_search.proofs.Steps.{unit_fits, gains_one}

@@ -1,6 +1,6 @@
 use Rattle.std.proofs.Common.{◌≡◌, ℕ, Some, IsTrue, rules}
 use Rattle.hw_model.specs.Timetables.{Permits, cargo, beats}
-use Rattle.hw_progress.specs.Searches.{best_cargo}
+use Rattle.hw_search_laws.specs.Searches.{best_cargo}
 use Rattle.hw_search.specs.Engines.{EngineModel}
 use Rattle.hw_search.proofs.Kept.{of_view}
 use Rattle.hw_search.proofs.Turns.{kept_better}

@@ -1,6 +1,6 @@
 use Rattle.std.proofs.Common.{sym, subst}
 use Rattle.std.proofs.lemmas.Result.{err_from_is_err_and}
-use Rattle.hw_progress.specs.Searches.{SearchModel, IsSearch}
+use Rattle.hw_search_laws.specs.Searches.{SearchModel, IsSearch}
 use Rattle.hw_search.specs.Engines.{EngineModel}
 use Rattle.hw_search.specs.Pricing.{TellsBound}
 use Rattle.hw_search.proofs.Heard.{IsNewBound, bound_is, bound_told, bound_stops, bound_kept, kept_prices}

@@ -1,9 +1,9 @@
 use Rattle.std.proofs.Common.{◌≡◌, true, false, refl, subst, sym, ◌∙◌, ap}
 use Rattle.hw_model.specs.Rooms.{IsPoint}
-use Rattle.hw_progress.specs.declared.outcome.Settled.TheVariants.{Quiet}
-use Rattle.hw_progress.specs.declared.outcome.Turn.TheVariants as turns
-use Rattle.hw_progress.specs.Searches.{IsSearch, room_in}
-use Rattle.hw_progress.specs.Settling.{Settles}
+use Rattle.hw_search_laws.specs.declared.outcome.Settled.TheVariants.{Quiet}
+use Rattle.hw_search_laws.specs.declared.outcome.Turn.TheVariants as turns
+use Rattle.hw_search_laws.specs.Searches.{IsSearch, room_in}
+use Rattle.hw_search_laws.specs.Settling.{Settles}
 use Rattle.hw_search.specs.Engines.{EngineModel}
 use Rattle.hw_search.specs.Turning.{TurnBegins, halted}
 use Rattle.hw_search.proofs.Answering.{decides, decided_meets, stopped_early}

@@ -1,5 +1,5 @@
 use Rattle.std.proofs.Common.{◌≤◌, map, length, refl, ap, ◌∙◌, arith}
-use Rattle.hw_ledger.specs.Ledgers.{LedgerModel}
+use Rattle.hw_search_ledger.specs.Ledgers.{LedgerModel}
 use Rattle.hw_search.proofs.Faults.{stop_keeps}
 use Rattle.hw_search.proofs.Learnt.{Gone, places_here, few_here, sources_here, source_here, lemma_stopped_here, wrote, ended_here, level_here, lits_back, above_here, whole_here, back_search, back_stopped, back_meets, stopped_meets}
 use Rattle.hw_search.proofs.Lessons.{goal_marked, kept_back}

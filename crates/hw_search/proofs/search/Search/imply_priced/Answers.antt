@@ -1,7 +1,7 @@
 use Rattle.std.proofs.Common.{◌≡◌, sym, subst}
 use Rattle.hw_model.specs.declared.narrowing.Narrowed.TheVariants.{Cut}
 use Rattle.hw_model.specs.Replay.{narrowing}
-use Rattle.hw_progress.specs.Searches.{SearchModel, room_in}
+use Rattle.hw_search_laws.specs.Searches.{SearchModel, room_in}
 use Rattle.hw_search.proofs.search.Search.imply_priced.Goals as goal
 
 pub imply_priced-requires-clause-only : goal.imply_priced-requires-clause-only

@@ -1,5 +1,5 @@
 use Rattle.std.proofs.Common.{◌≡◌, ◌∙◌, sym, subst, ap}
-use Rattle.hw_laws.proofs.Cuts.{same_ships}
+use Rattle.hw_model_laws.proofs.Cuts.{same_ships}
 use Rattle.hw_store.specs.Numbering.{HitsWithin}
 use Rattle.hw_store.specs.Watches.{WatchModel, KeepsWatches}
 use Rattle.hw_store.proofs.Keeping.{numbers, marked_shows}

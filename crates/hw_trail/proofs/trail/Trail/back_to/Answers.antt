@@ -1,6 +1,6 @@
 use Rattle.std.proofs.Common.{◌≡◌, ◌≤◌, ℕ, ◌∙◌, ap, length, take, filter, nat_le, List}
-use Rattle.hw_story.specs.declared.event.Event.{Event}
-use Rattle.hw_story.specs.Trails.{TrailModel, back_to, room_of}
+use Rattle.hw_trail_laws.specs.declared.event.Event.{Event}
+use Rattle.hw_trail_laws.specs.Trails.{TrailModel, back_to, room_of}
 use Rattle.hw_trail.specs.Kept.{trail_in}
 use Rattle.hw_trail.proofs.Few.{of_view}
 use Rattle.hw_trail.proofs.Returns.{back_is, back_keeps, same_back, bounds_back}

@@ -2,7 +2,7 @@ use Rattle.std.proofs.Common.{arith, ◌≡◌, true, ap, ◌∙◌}
 use Rattle.hw_model.specs.declared.lit.LitTruth.TheVariants.{Free}
 use Rattle.hw_model.specs.Lits.{lit_fits}
 use Rattle.hw_model.specs.Narrowing.{truth}
-use Rattle.hw_story.specs.Trails.{TrailModel, trail_shape, room_of}
+use Rattle.hw_trail_laws.specs.Trails.{TrailModel, trail_shape, room_of}
 use Rattle.hw_trail.proofs.Few.{level_small, one_more, lit_in_room, decide_keeps, of_view}
 use Rattle.hw_trail.specs.Bounds.{range_end}
 use Rattle.hw_trail.proofs.Made.{one_bound, bounds_more}

@@ -4,7 +4,7 @@ use Rattle.hw_model.specs.declared.narrowing.Narrowed.TheVariants.{Cut}
 use Rattle.hw_model.specs.Lits.{lit_fits, IsClause}
 use Rattle.hw_model.specs.Narrowing.{truth}
 use Rattle.hw_model.specs.Replay.{narrowing}
-use Rattle.hw_story.specs.Trails.{TrailModel, trail_shape, reason_clause, room_of}
+use Rattle.hw_trail_laws.specs.Trails.{TrailModel, trail_shape, reason_clause, room_of}
 use Rattle.hw_trail.proofs.Few.{one_more, lit_in_room, imply_keeps, of_view}
 use Rattle.hw_trail.specs.Bounds.{range_end}
 use Rattle.hw_trail.proofs.Made.{one_bound, bounds_more}

@@ -1,11 +1,11 @@
 use Rattle.std.proofs.Common.{arith, ◌≡◌, ◌<◌, ◌∙◌, sym, ap, subst, true, length, get_or, List, IsTrue, ◌↔◌, Some}
 use Rattle.hw_model.specs.declared.lit.Lit.{Lit}
 use Rattle.hw_model.specs.Lits.{negation, lit_fits}
-use Rattle.hw_story.specs.declared.event.Event.{Event}
+use Rattle.hw_trail_laws.specs.declared.event.Event.{Event}
 use Rattle.std.proofs.lemmas.List.{get_or_default}
-use Rattle.hw_story.specs.Trails.{TrailModel, trail_shape, room_before}
-use Rattle.hw_story.specs.Bridge.{event_at}
-use Rattle.hw_story.specs.Learning.{event_of}
+use Rattle.hw_trail_laws.specs.Trails.{TrailModel, trail_shape, room_before}
+use Rattle.hw_trail_laws.specs.Bridge.{event_at}
+use Rattle.hw_trail_laws.specs.Learning.{event_of}
 use Rattle.hw_trail.specs.Bounds.{range_end, makes}
 use Rattle.hw_trail.proofs.Few.{of_view}
 use Rattle.hw_trail.proofs.Finds.{now_trail}

@@ -2,7 +2,7 @@ use Rattle.std.proofs.Common.{◌≡◌, List, ◌∙◌, sym, ap, subst}
 use Rattle.hw_model.specs.Lits.{IsLitOf}
 use Rattle.hw_model.specs.Narrowing.{cut}
 use Rattle.hw_model.specs.declared.rule.Job.{Job}
-use Rattle.hw_laws.proofs.Quiets.{cut_fits}
+use Rattle.hw_model_laws.proofs.Quiets.{cut_fits}
 use Rattle.hw_tugs.specs.Kinds.{jobs_in, jobs_of}
 use Rattle.hw_tugs.specs.Held.{IsLoad, Sees}
 use Rattle.hw_tugs.proofs.profile.TugProfilePropagator.changed.Goals as goal

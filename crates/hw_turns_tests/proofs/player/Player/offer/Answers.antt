@@ -1,8 +1,8 @@
 use Rattle.std.proofs.Common.{subst, sym}
 use Rattle.hw_model.specs.Problem.{Problem}
 use Rattle.hw_model.specs.Timetables.{Permits}
-use Rattle.hw_progress.specs.declared.outcome.Turn.{Turn}
-use Rattle.hw_progress.specs.Offers.{OfferMeets}
+use Rattle.hw_search_laws.specs.declared.outcome.Turn.{Turn}
+use Rattle.hw_search_laws.specs.Offers.{OfferMeets}
 use Rattle.hw_cert.specs.Logs.{memory_log}
 use Rattle.hw_turns.proofs.Membering.{caught_offer, better_of}
 use Rattle.hw_turns_tests.proofs.player.Player.offer.Goals as goal

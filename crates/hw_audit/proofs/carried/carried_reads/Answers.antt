@@ -1,0 +1,5 @@
+use Rattle.hw_audit.proofs.Reading.{carried_reads}
+use Rattle.hw_audit.proofs.carried.carried_reads.Goals as goal
+
+pub returns : goal.returns
+returns c = carried_reads

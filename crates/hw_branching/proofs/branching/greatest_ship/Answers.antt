@@ -1,5 +1,0 @@
-use Rattle.hw_branching.proofs.Choosing.{best_more}
-use Rattle.hw_branching.proofs.branching.greatest_ship.Goals as goal
-
-pub loop-ship-preserved : goal.loop-ship-preserved
-loop-ship-preserved c = best_more c.args.flat.now c.args.room.now c.loop-ship.ship c.better-best.result (c.better-best.ensures.best _ c.loop-ship.invariant)

@@ -1,3 +1,0 @@
-pub mod Branching
-pub mod Powers
-pub mod Restarts

@@ -1,4 +1,0 @@
-pub mod Days
-pub mod Values
-pub mod Meeting
-pub mod Reading

@@ -1,5 +1,0 @@
-use Rattle.std.proofs.Common.{length}
-use Rattle.hw_carry.proofs.carrying.+put_wishes.Given as goal
-
-abbrev pub decreases-put_wishes : goal.decreases-put_wishes
-decreases-put_wishes g l = length l.sailed.now

@@ -1,7 +1,0 @@
-use Rattle.std.proofs.Common.{refl}
-use Rattle.std.specs.Fmt.{digits}
-use Rattle.hw_carry.proofs.laws.carried_rows.Goals as goal
-
-pub returns : goal.returns
-unfolding digits
-returns c = record { no_event = refl; one_sailed = refl; one_delayed = refl; delayed_before = refl }

@@ -1,3 +1,0 @@
-mod Charted
-pub mod Decided
-pub mod Verified

@@ -1,5 +1,0 @@
-use Rattle.hw_chart_command.proofs.Verified.{charts_as_verified_law}
-use Rattle.hw_chart_command.proofs.laws.charts_as_verified.Goals as goal
-
-pub returns : goal.returns
-returns c = charts_as_verified_law

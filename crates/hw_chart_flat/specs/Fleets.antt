@@ -1,0 +1,54 @@
+-- The fleets of tugs that a picture shows: the first eight rules on tugs.
+use Rattle.std.specs.Prelude.{ℕ, ◌+◌, max, Bool, true, false, nat_lt, if◌then◌else◌, List, [], ◌∷◌, Option, Some, None, slice_index, take, drop, filter}
+use Rattle.hw_model.specs.declared.rule.Job.{Job}
+use Rattle.hw_model.specs.declared.rule.Rule.{Rule}
+use Rattle.hw_model.specs.declared.rule.Rule.TheVariants.{Pair, After, Tugs}
+use Rattle.hw_model.specs.Problem.{Problem, horizon}
+use Rattle.hw_chart_flat.specs.declared.fleets.Fleets.{Fleets}
+
+-- a rule on tugs
+abbrev pub is_fleet : Rule → Bool
+is_fleet (Pair v w holes) = false
+is_fleet (After v w gap) = false
+is_fleet (Tugs fleet jobs) = true
+
+-- the tugs that a rule's fleet has
+abbrev pub fleet_of : Rule → ℕ
+fleet_of (Pair v w holes) = 0
+fleet_of (After v w gap) = 0
+fleet_of (Tugs fleet jobs) = fleet
+
+abbrev pub jobs_of_rule : Rule → List Job
+jobs_of_rule (Pair v w holes) = []
+jobs_of_rule (After v w gap) = []
+jobs_of_rule (Tugs fleet jobs) = jobs
+
+-- the first of the rules on tugs, at most `count`
+abbrev pub first_fleets : ℕ → List Rule → List Rule
+first_fleets count rules = take count (filter is_fleet rules)
+
+-- the fleets that are still to come
+unfoldable pub fleets_in : Fleets → List Rule
+fleets_in fleets = first_fleets fleets.left (drop fleets.from fleets.rules.now)
+
+unfoldable pub fleets : Problem → List Rule
+fleets f = first_fleets 8 f.rules
+
+-- the end of a job of a ship that sails, where ships sail in this many slots
+abbrev pub job_end : ℕ → List ℕ → Job → ℕ
+job_end slots table job = if nat_lt (slice_index table job.ship) slots then slice_index table job.ship + job.hold else 0
+
+-- the last end of the jobs
+abbrev pub jobs_end : ℕ → List ℕ → List Job → ℕ
+jobs_end slots table [] = 0
+jobs_end slots table (job ∷ jobs) = max (job_end slots table job) (jobs_end slots table jobs)
+
+-- the last end of the jobs of several fleets, and at least the number of slots in which ships sail
+abbrev pub fleets_end : ℕ → List ℕ → List Rule → ℕ
+fleets_end slots table [] = slots
+fleets_end slots table (rule ∷ rules) = max (jobs_end slots table (jobs_of_rule rule)) (fleets_end slots table rules)
+
+-- how many slots a picture shows: those in which ships sail, and as many more as its tugs are held
+unfoldable pub picture_span : Problem → Option (List ℕ) → ℕ
+picture_span f None = horizon f
+picture_span f (Some table) = fleets_end (horizon f) table (fleets f)

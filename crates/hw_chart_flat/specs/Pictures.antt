@@ -1,0 +1,66 @@
+-- The picture of a flat problem, with a timetable or without one.
+use Rattle.std.specs.Prelude.{ℕ, ◌+◌, ◌*◌, List, [], ◌∷◌, ◌++◌, codes, decimal, length, Option, Some, None}
+use Rattle.hw_model.specs.declared.rule.Rule.{Rule}
+use Rattle.hw_model.specs.Problem.{Problem, horizon}
+use Rattle.hw_model.specs.Rules.{busy}
+use Rattle.hw_chart_svg.specs.Joined.{joined}
+use Rattle.hw_chart_svg.specs.Lettering.{line}
+use Rattle.hw_chart_svg.specs.Sheets.{list_of, svg_end}
+use Rattle.hw_chart.specs.declared.grid.Scale.TheVariants.{Slots}
+use Rattle.hw_chart.specs.declared.outcome.CargoUnit.TheVariants.{Plain}
+use Rattle.hw_chart.specs.declared.outcome.Outcome.{Outcome}
+use Rattle.hw_chart.specs.declared.panel.Panel.{Panel}
+use Rattle.hw_chart.specs.Grids.{grid, span_end}
+use Rattle.hw_chart.specs.Headings.{heading}
+use Rattle.hw_chart.specs.Panels.{planned_panel, unplanned_panel}
+use Rattle.hw_chart_flat.specs.Fleets.{fleet_of, fleets, picture_span}
+use Rattle.hw_chart_flat.specs.Legends.{flat_legend}
+use Rattle.hw_chart_flat.specs.Rows.{planned_rows, unplanned_rows}
+
+-- where the first panel stands, below the rows
+abbrev pub panels_y : Problem → ℕ
+panels_y f = 156 + 42 * f.ships
+
+-- where the plot ends
+abbrev pub flat_picture_bottom : Problem → ℕ
+flat_picture_bottom f = panels_y f + 66 * length (fleets f)
+
+unfoldable pub flat_picture_sizes : Problem → List ℕ
+flat_picture_sizes f = joined (codes "ships " ∷ decimal f.ships ∷ codes ", slots " ∷ decimal (horizon f) ∷ codes ", rules " ∷ decimal (length f.rules) ∷ [])
+
+unfoldable pub flat_head : Problem → Option (List ℕ) → Outcome → List ℕ
+flat_head f table outcome = heading Plain outcome (flat_picture_bottom f + 28) (flat_picture_sizes f) ++ flat_legend f table []
+
+-- what the figures right of the rows are
+unfoldable pub flat_columns : List ℕ
+flat_columns = line (codes "m r") 956 138 (codes "slot") ++ line (codes "m r") 1268 138 (codes "value")
+
+-- a panel for the fleet of a rule
+abbrev pub flat_panel_of : Problem → ℕ → ℕ → Rule → Panel
+flat_panel_of f span y rule = record { y = y; fleet = fleet_of rule; slots = horizon f; span = span }
+
+abbrev pub unplanned_panels : Problem → ℕ → ℕ → List Rule → List ℕ
+unplanned_panels f span y [] = []
+unplanned_panels f span y (rule ∷ rules) = unplanned_panel (flat_panel_of f span y rule) ++ unplanned_panels f span (y + 66) rules
+
+-- the tugs that each fleet holds in each slot
+abbrev pub planned_panels : Problem → List ℕ → ℕ → ℕ → List Rule → List ℕ
+planned_panels f table span y [] = []
+planned_panels f table span y (rule ∷ rules) = planned_panel (flat_panel_of f span y rule) (busy rule table) ++ planned_panels f table span (y + 66) rules
+
+unfoldable pub flat_foot : Problem → ℕ → List ℕ
+flat_foot f span = joined (grid Slots span (flat_picture_bottom f) ∷ span_end (horizon f) span (flat_picture_bottom f) ∷ svg_end ∷ [])
+
+unfoldable pub unplanned_body : Problem → List ℕ
+unplanned_body f = joined (list_of (unplanned_rows f 0 f.ships) ∷ unplanned_panels f (horizon f) (panels_y f) (fleets f) ∷ [])
+
+unfoldable pub planned_body : Problem → List ℕ → List ℕ
+planned_body f table = joined (flat_columns ∷ list_of (planned_rows f table 0 f.ships) ∷ planned_panels f table (picture_span f (Some table)) (panels_y f) (fleets f) ∷ [])
+
+unfoldable pub body : Problem → Option (List ℕ) → List ℕ
+body f None = unplanned_body f
+body f (Some table) = planned_body f table
+
+-- the whole text: what a certificate shows, and the timetable, if there is one
+unfoldable pub flat_picture : Problem → Option (List ℕ) → Outcome → List ℕ
+flat_picture f table outcome = joined (flat_head f table outcome ∷ body f table ∷ flat_foot f (picture_span f table) ∷ [])

@@ -1,0 +1,76 @@
+-- The passes of ships at a waypoint, each with the tide that it needs.
+use Rattle.std.specs.Prelude.{ℕ, ◌+◌, ℤ, pos, ◌+ℤ◌, ◌-ℤ◌, List, [], ◌∷◌, ◌++◌, codes, decimal, nat_eq, if◌then◌else◌, unsigned_abs}
+use Rattle.std.specs.Int.{int_max}
+use Rattle.hw_chart_svg.specs.Joined.{joined}
+use Rattle.hw_chart_svg.specs.Names.{escaped}
+use Rattle.hw_chart_svg.specs.Numbers.{clock, metres}
+use Rattle.hw_chart_svg.specs.Shapes.{titled}
+use Rattle.hw_chart_svg.specs.declared.area.Area.{Area}
+use Rattle.hw_port.specs.declared.parts.Pass.{Pass}
+use Rattle.hw_port.specs.Parts.{ShipParts}
+use Rattle.hw_port_model.specs.Numbers.{whole}
+use Rattle.hw_port_model.specs.Drafts.{passing_slot}
+use Rattle.hw_chart.specs.declared.course.Course.{Course}
+use Rattle.hw_chart.specs.declared.course.Course.TheVariants.{Unplanned, Stays, Sails}
+use Rattle.hw_chart_port.specs.declared.passing.Strip.{Strip}
+use Rattle.hw_chart_port.specs.declared.passing.Underway.{Underway}
+use Rattle.hw_chart_port.specs.declared.passing.Passing.{Passing}
+use Rattle.hw_chart_port.specs.Charts.{ChartParts, course, draft_in, judging_height, mark_class, minutes_to, tall_between, charted_waypoint_name}
+
+-- the tide without which a ship of this draft would not keep its clearance, or the lowest tide where that is higher
+abbrev pub need : Strip → ℕ → ℕ → ℤ
+need strip draft clearance = int_max strip.low (pos draft +ℤ pos clearance -ℤ pos strip.depth)
+
+-- the depth of the water at a waypoint in a slot, by the height that judges passes there
+abbrev pub water : ChartParts → Strip → ℕ → ℤ
+water chart strip slot = pos strip.depth +ℤ judging_height chart slot strip.place
+
+-- how a ship that is under way makes a pass: when, with how much water and how much of it under the keel
+abbrev pub passing : ChartParts → Strip → Underway → Pass → Passing
+passing chart strip ship pass = record {
+  slot = passing_slot ship.slot pass;
+  time = minutes_to chart (passing_slot ship.slot pass);
+  draft = ship.draft;
+  water = whole (water chart strip (passing_slot ship.slot pass));
+  keel = whole (water chart strip (passing_slot ship.slot pass) -ℤ pos ship.draft);
+  clearance = whole pass.clearance;
+  level = unsigned_abs (strip.high -ℤ need strip ship.draft (whole pass.clearance));
+}
+
+-- when a ship passes, and in how much water
+unfoldable pub passing_title : List ℕ → List ℕ → Passing → List ℕ
+passing_title ship waypoint p = joined (escaped ship ∷ codes " passes " ∷ escaped waypoint ∷ codes " in slot " ∷ decimal p.slot ∷ codes ", " ∷ clock p.time ∷ codes ": draft " ∷ metres p.draft ∷ codes ", water " ∷ metres p.water ∷ codes ", under keel " ∷ metres p.keel ∷ codes ", at least " ∷ metres p.clearance ∷ [])
+
+-- from the tide that it needs down
+abbrev pub passing_area : Strip → Passing → Area
+passing_area strip p = record { left = p.slot; right = p.slot + 1; top = p.level; bottom = tall_between strip.low strip.high }
+
+-- the mark of a passing
+abbrev pub passing_mark : Strip → ShipParts → List ℕ → Passing → List ℕ
+passing_mark strip s waypoint p = titled (mark_class s) (passing_area strip p) (passing_title s.name waypoint p)
+
+-- the mark of a pass at this waypoint
+abbrev pub mark_here : ChartParts → Strip → Underway → ShipParts → Pass → List ℕ
+mark_here chart strip ship s pass = passing_mark strip s (charted_waypoint_name chart strip.place) (passing chart strip ship pass)
+
+-- a pass, where it is one of this waypoint
+abbrev pub pass_mark : ChartParts → Strip → Underway → ShipParts → Pass → List ℕ
+pass_mark chart strip ship s pass = if nat_eq (whole pass.waypoint) strip.place then mark_here chart strip ship s pass else []
+
+abbrev pub pass_marks : ChartParts → Strip → Underway → ShipParts → List Pass → List ℕ
+pass_marks chart strip ship s [] = []
+pass_marks chart strip ship s (pass ∷ more) = pass_mark chart strip ship s pass ++ pass_marks chart strip ship s more
+
+abbrev pub underway : ChartParts → ℕ → ℕ → Underway
+underway chart v slot = record { slot = slot; draft = draft_in chart v slot }
+
+-- the passes of a ship that sails
+abbrev pub course_marks : ChartParts → Strip → ℕ → ShipParts → Course → List ℕ
+course_marks chart strip v s Unplanned = []
+course_marks chart strip v s Stays = []
+course_marks chart strip v s (Sails slot) = pass_marks chart strip (underway chart v slot) s s.route
+
+-- the passes of the ships from this number on
+abbrev pub marks_from : ChartParts → Strip → ℕ → List ShipParts → List ℕ
+marks_from chart strip v [] = []
+marks_from chart strip v (s ∷ more) = course_marks chart strip v s (course chart v) ++ marks_from chart strip (v + 1) more

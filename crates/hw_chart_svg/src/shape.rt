@@ -1,0 +1,71 @@
+//! Shapes.
+
+ghost use Rattle.hw_desk.specs.Writers.{Puts};
+ghost use Rattle.hw_chart_svg.specs.Pieces.{picture_pieces_text};
+ghost use Rattle.hw_chart_svg.specs.Shapes.{area_path, block, shape, shape_begin, titled};
+
+use crate::area::Area;
+use crate::piece::{Piece, put_pieces};
+use hw_desk::Writer;
+
+/// Puts the beginning of a shape of a class, before its path.
+#[tactic(auto, unfolding(crate::specs::Shapes::shape_begin))]
+pub fn put_shape_begin<W: Writer>(out: &mut W, class: &[u8])
+    ensures { Puts (shape_begin class.now) (W.state out.old) (W.state out.new) }
+{
+    out.put(b"<path class=\"");
+    out.put(class);
+    out.put(b"\" d=\"");
+}
+
+/// Puts a shape of a class along a path.
+pub fn put_shape<W: Writer>(out: &mut W, class: &[u8], path: &[Piece])
+    ensures { Puts (shape class.now (picture_pieces_text path.now)) (W.state out.old) (W.state out.new) }
+{
+    put_shape_begin(out, class);
+    put_pieces(out, path);
+    out.put(b"\"/>\n");
+}
+
+/// Puts the path around an area.
+#[tactic(auto, unfolding(crate::specs::Shapes::area_path))]
+fn put_area_path<W: Writer>(out: &mut W, area: Area)
+    ensures { Puts (area_path area) (W.state out.old) (W.state out.new) }
+{
+    put_pieces(
+        out,
+        &[
+            Piece::Word(b"M"),
+            Piece::Number(area.left),
+            Piece::Word(b" "),
+            Piece::Number(area.top),
+            Piece::Word(b"H"),
+            Piece::Number(area.right),
+            Piece::Word(b"V"),
+            Piece::Number(area.bottom),
+            Piece::Word(b"H"),
+            Piece::Number(area.left),
+            Piece::Word(b"z"),
+        ],
+    );
+}
+
+/// Puts a filled area.
+pub fn put_block<W: Writer>(out: &mut W, class: &[u8], area: Area)
+    ensures { Puts (block class.now area) (W.state out.old) (W.state out.new) }
+{
+    put_shape_begin(out, class);
+    put_area_path(out, area);
+    out.put(b"\"/>\n");
+}
+
+/// Puts a filled area with a title, which viewers show on request.
+pub fn put_titled<W: Writer>(out: &mut W, class: &[u8], area: Area, title: &[Piece])
+    ensures { Puts (titled class.now area (picture_pieces_text title.now)) (W.state out.old) (W.state out.new) }
+{
+    put_shape_begin(out, class);
+    put_area_path(out, area);
+    out.put(b"\"><title>");
+    put_pieces(out, title);
+    out.put(b"</title></path>\n");
+}

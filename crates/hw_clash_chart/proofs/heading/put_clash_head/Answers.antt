@@ -1,5 +1,0 @@
-use Rattle.hw_desk.proofs.Written.{puts_on}
-use Rattle.hw_clash_chart.proofs.heading.put_clash_head.Goals as goal
-
-pub returns : goal.returns
-returns g c = puts_on (rw c.height.ensures at c.put_clash_begin.ensures) c.put_port_lines.ensures

@@ -1,5 +1,0 @@
-use Rattle.hw_clash_chart.proofs.Told.{clash_entries_fit_law}
-use Rattle.hw_clash_chart.proofs.laws.clash_entries_fit.Goals as goal
-
-pub returns : goal.returns
-returns c = clash_entries_fit_law

@@ -1,5 +1,0 @@
-use Rattle.hw_clash_chart.proofs.Told.{each_kept_is_marked_law}
-use Rattle.hw_clash_chart.proofs.laws.each_kept_is_marked.Goals as goal
-
-pub returns : goal.returns
-returns c = each_kept_is_marked_law

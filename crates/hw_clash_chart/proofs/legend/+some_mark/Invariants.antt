@@ -1,5 +1,0 @@
-use Rattle.std.proofs.Common.{length}
-use Rattle.hw_clash_chart.proofs.legend.+some_mark.Given as goal
-
-abbrev pub decreases-some_mark : goal.decreases-some_mark
-decreases-some_mark l = length l.marks.now

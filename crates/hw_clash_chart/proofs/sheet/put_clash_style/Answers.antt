@@ -1,6 +1,0 @@
-use Rattle.hw_clash_chart.specs.Heads.{clash_style}
-use Rattle.hw_clash_chart.proofs.sheet.put_clash_style.Goals as goal
-
-pub returns : goal.returns
-unfolding clash_style
-returns g c = c.put.ensures.puts

@@ -1,2 +1,0 @@
-mod Charted
-mod Decided

@@ -1,5 +1,0 @@
-use Rattle.hw_clash_command.proofs.Decided.{one_clash_report_law}
-use Rattle.hw_clash_command.proofs.laws.one_clash_report.Goals as goal
-
-pub returns : goal.returns
-returns c = one_clash_report_law

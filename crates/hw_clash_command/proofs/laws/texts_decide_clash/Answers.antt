@@ -1,5 +1,0 @@
-use Rattle.hw_clash_command.proofs.Decided.{texts_decide_clash_law}
-use Rattle.hw_clash_command.proofs.laws.texts_decide_clash.Goals as goal
-
-pub returns : goal.returns
-returns c = texts_decide_clash_law

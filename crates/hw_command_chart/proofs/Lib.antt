@@ -1,0 +1,5 @@
+mod Charted
+pub mod Decided
+pub mod Verified
+mod ClashCharted
+mod ClashDecided

@@ -1,0 +1,80 @@
+-- A search whose lines went to Proof.
+use Rattle.std.proofs.Common.{◌≡◌, ◌≤◌, ◌++◌, ◌∙◌, ℕ, List, [], true, false, Option, Some, None, Result, Ok, Err, inr, refl, sym, ap, subst, arith, append-nil}
+use Rattle.std.specs.Prelude.{IfSome, is_err, option_and_then}
+use Rattle.hw_model.specs.Problem.{Problem}
+use Rattle.hw_desk.specs.State.{DeskState, TrayState, put_tray, Rose}
+use Rattle.hw_desk.specs.Calls.{OnlyTray, Makes}
+use Rattle.hw_desk.specs.Whole.{SendsText}
+use Rattle.hw_desk.specs.declared.desk.Tray.{Tray}
+use Rattle.hw_desk.specs.declared.desk.Tray.TheVariants.{Report, Proof}
+use Rattle.hw_desk.proofs.Chain.{only_tray_on}
+use Rattle.hw_cert.specs.declared.version.Version.{Version}
+use Rattle.hw_cert.specs.Logs.{LogTold, outside_of, Outside}
+use Rattle.hw_cert.specs.Texts.{cert_text}
+use Rattle.hw_cert.specs.Told.{header_line_of, told_under, is_told_under, log_under, IsTextUnder}
+use Rattle.hw_cert.proofs.Telling.{some_told}
+use Rattle.hw_cert.proofs.ToldText.{each_text_told}
+use Rattle.hw_command_search.specs.Searchers.{Searcher}
+use Rattle.hw_command_search.specs.Searching.{SearchMeets, SearchLeaves, SearchesTo}
+use Rattle.hw_command_search.specs.declared.finding.Found.{Found}
+
+-- ---- what is on Proof
+
+-- what holds of the lines told holds of the bytes told
+pub by_lines : (version : Version) {P : LogTold → Type 0} {Q : List ℕ → Type 0} (sent : Option (List ℕ)) → is_told_under version sent ≡ true → IfSome (option_and_then (told_under version) sent) P → ((told : LogTold) (bytes : List ℕ) → IsTextUnder version told bytes → P told → Q bytes) → IfSome sent Q
+by_lines version None told h k = tt
+by_lines version {P = P} (Some bytes) told h k =
+    let t = some_told (told_under version bytes) told in
+    k t.0 bytes (each_text_told version bytes t.0 t.1) (subst (λ (o : Option LogTold). IfSome o P) t.1 h)
+
+-- the text of whole lines
+pub whole_text : (version : Version) {told : LogTold} {bytes : List ℕ} → IsTextUnder version told bytes → told.remainder ≡ [] → bytes ≡ cert_text version told.lines
+whole_text version {told = told} t e = t.text ∙ ap (λ (remainder : List ℕ). cert_text version told.lines ++ remainder) e ∙ append-nil (cert_text version told.lines)
+
+leaves : (q : Searcher) (f : Problem) (budget : ℕ) (found : Option Found) (x y z : DeskState) → y.write_faults ≡ x.write_faults → is_told_under q.version (z.trays Proof).sent ≡ true → SearchMeets q f budget (log_under q.version y) found (log_under q.version z) → SearchLeaves q f budget x z found
+leaves q f budget (Some found) x y z before told m = (
+  m.leaves.0 ∙ before,
+  m.leaves.1,
+  by_lines q.version (z.trays Proof).sent told m.leaves.2 (λ t bytes text tells. record { lines = t.lines; text = whole_text q.version text tells.whole; written = tells.written; shows = tells.shows }),
+)
+leaves q f budget None x y z before told m = (
+  rose m.leaves.0,
+  by_lines q.version (z.trays Proof).sent told m.leaves.1 (λ t bytes text tells. inr (record { told = t; text = text; written = tells.written; next = tells.next })),
+)
+  where
+    rose : Rose y.write_faults z.write_faults → Rose x.write_faults z.write_faults
+    rose h = omega (arith, before)
+
+-- ---- the frame
+
+-- no tray but Proof may have changed
+only_proof : (x y : Tray → TrayState) → y Report ≡ x Report → y ≡ put_tray x Proof (y Proof)
+only_proof x y e = λ i t. (at t) i
+  where
+    at : (t : Tray) → y t ≡ put_tray x Proof (y Proof) t
+    at Report = e
+    at Proof = refl
+
+pub outside_only : {y z : DeskState} → outside_of z ≡ outside_of y → y.write_faults ≤ z.write_faults → OnlyTray Proof y z
+outside_only {y = y} {z = z} e later = record {
+  held = ap (λ (o : Outside). o.held) e;
+  feeds = ap (λ (o : Outside). o.feeds) e;
+  trays = only_proof y.trays z.trays (ap (λ (o : Outside). o.report) e);
+  read_faults = ap (λ (o : Outside). o.read_faults) e;
+  later = later;
+}
+
+-- ---- the search has run
+
+ends_well : {q : Searcher} {x y z w : DeskState} {name : List ℕ} {f : Problem} {budget : ℕ} {E F : Type 0} {u v : Unit {0}} (found : Option Found) → Makes {E = E} Proof name x y (Ok u) → SendsText {E = F} Proof (header_line_of q.version) y z (Ok v) → outside_of w ≡ outside_of z → is_told_under q.version (w.trays Proof).sent ≡ true → SearchMeets q f budget (log_under q.version z) found (log_under q.version w) → SearchesTo q f budget name x w found
+ends_well {q = q} {x = x} {z = z} {w = w} {name = name} {f = f} {budget = budget} found h k same told m = record {
+  only = only_tray_on (only_tray_on h.only k.only) (outside_only same m.later);
+  made = ap (λ (o : Outside). o.made) same ∙ k.ok.made ∙ h.made;
+  named = subst (λ (n : Option (List ℕ)). IfSome n (λ t. t ≡ name)) (sym (ap (λ (o : Outside). o.named) same ∙ k.ok.named)) h.named;
+  leaves = leaves q f budget found x z w (k.kept ∙ h.kept) told m;
+}
+
+pub search_ends : {q : Searcher} {x y z w : DeskState} {name : List ℕ} {f : Problem} {budget : ℕ} {E F : Type 0} (made : Result Unit E) (sent : Result Unit F) (found : Option Found) → is_err made ≡ false → is_err sent ≡ false → Makes Proof name x y made → SendsText Proof (header_line_of q.version) y z sent → outside_of w ≡ outside_of z → is_told_under q.version (w.trays Proof).sent ≡ true → SearchMeets q f budget (log_under q.version z) found (log_under q.version w) → SearchesTo q f budget name x w found
+search_ends (Err e) sent found a b h k same told m = absurd (cc)
+search_ends (Ok u) (Err e) found a b h k same told m = absurd (cc)
+search_ends {q = q} (Ok u) (Ok v) found a b h k same told m = ends_well {q = q} found h k same told m

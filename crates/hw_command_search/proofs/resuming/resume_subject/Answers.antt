@@ -1,0 +1,35 @@
+use Rattle.std.proofs.Common.{◌≡◌, ◌∙◌, [], ◌∷◌, None, ap, subst, sym}
+use Rattle.hw_report.specs.Printing.{CanPrint}
+use Rattle.hw_report.specs.Reports.{Naming, Report}
+use Rattle.hw_report.specs.Seen.{report_seen}
+use Rattle.hw_command.specs.Certificates.{report_of_check}
+use Rattle.hw_command.specs.Ends.{Ends}
+use Rattle.hw_subject.specs.Reading.{naming_of}
+use Rattle.hw_subject.specs.Subjects.{topic_seen}
+use Rattle.hw_command_search.proofs.Resumptions.{broke_carries, can_print, found_carries, resume_stops, resumed_slots, stopped_carries}
+use Rattle.hw_command_search.proofs.resuming.resume_subject.Goals as goal
+
+pub returns-in-Err : goal.returns-in-Err
+returns-in-Err g c = resume_stops (topic_seen c.args.subject) c.args.cert.now c.args.proof.now c.args.budget c.in-Err.ensures.stops c.finish.ensures
+
+pub returns-in-Stopped : goal.returns-in-Stopped
+returns-in-Stopped g c =
+    let z = g.D.Desk.state c.resume_to.new.desk in
+    let end = g.D.Desk.state c.finish-in-Stopped.new.desk in
+    let told : report_seen c.check_report.result ≡ report_of_check (naming_of c.in-Ok.given.named) None None c.in-Stopped.stopped = c.check_report.ensures.value ∙ ap (λ (names : Naming). report_of_check names None None c.in-Stopped.stopped) c.names.ensures in
+    stopped_carries (topic_seen c.args.subject) z c.in-Stopped.stopped c.in-Ok.ensures.given (rw c.searched.ensures at c.in-Stopped.ensures) (subst (λ (r : Report). Ends (r ∷ []) z end c.finish-in-Stopped.result) told c.finish-in-Stopped.ensures)
+
+pub found_report-requires : goal.found_report-requires
+found_report-requires g c = resumed_slots (topic_seen c.args.subject) c.in-Found.found c.in-Ok.ensures.given (rw c.searched.ensures at c.in-Found.ensures)
+
+pub finish-requires-in-Found : goal.finish-requires-in-Found
+finish-requires-in-Found g c = subst (λ (r : Report). CanPrint r) (sym c.found_report.ensures) (can_print (topic_seen c.args.subject) c.in-Found.found c.in-Ok.ensures.given (rw c.searched.ensures at c.in-Found.ensures))
+
+pub returns-in-Found : goal.returns-in-Found
+returns-in-Found g c =
+    let z = g.D.Desk.state c.resume_to.new.desk in
+    let end = g.D.Desk.state c.finish-in-Found.new.desk in
+    found_carries (topic_seen c.args.subject) z c.in-Found.found c.in-Ok.ensures.given (rw c.searched.ensures at c.in-Found.ensures) (subst (λ (r : Report). Ends (r ∷ []) z end c.finish-in-Found.result) c.found_report.ensures c.finish-in-Found.ensures)
+
+pub returns : goal.returns
+returns g c = broke_carries (topic_seen c.args.subject) (g.D.Desk.state c.resume_to.new.desk) c.in-Ok.ensures.given (rw c.searched.ensures at c.in-WriteFailed.ensures)

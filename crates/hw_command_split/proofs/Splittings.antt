@@ -1,0 +1,232 @@
+-- A split of a subject, made by the best that a certificate knows.
+use Rattle.std.proofs.Common.{◌≡◌, ◌++◌, ◌∙◌, ℕ, false, List, [], ◌∷◌, Option, Some, None, Result, Ok, Err, cond, inl, inr, append-nil, ap, refl, subst, sym, arith}
+use Rattle.std.specs.Prelude.{◌≤◌, ◌<◌, IfOk, count_by, length}
+use Rattle.std.proofs.lemmas.List.Sums.{sum_by-cons}
+use Rattle.hw_model.specs.Problem.{Problem, shape_of}
+use Rattle.hw_model.specs.declared.shape.Shape.{Shape}
+use Rattle.hw_desk.specs.State.{DeskState}
+use Rattle.hw_desk.specs.declared.desk.Feed.TheVariants.{Certificate}
+use Rattle.hw_desk.specs.declared.desk.Tray.TheVariants as tray
+use Rattle.hw_cert_lines.specs.Lines.{last_table}
+use Rattle.hw_cert.specs.declared.version.Version.TheVariants.{Three}
+use Rattle.hw_cert.proofs.Answered.{told_map}
+use Rattle.hw_report.specs.Reports.{Report, Naming, no_memory, parts_told, refused, too_long}
+use Rattle.hw_command.specs.Carries.{Carries}
+use Rattle.hw_command.specs.Certificates.{report_of_check}
+use Rattle.hw_command.specs.Ends.{Ends, EndsWith}
+use Rattle.hw_command.specs.Readings.{KeepsNone, ReadsCert, outcome_in}
+use Rattle.hw_command.specs.Scope.{Entered, named_feed}
+use Rattle.hw_command.specs.Sending.{SendsTo}
+use Rattle.hw_command.specs.Works.{Works, is_common}
+use Rattle.hw_command.specs.declared.cert.ReadCert.{ReadCert}
+use Rattle.hw_command.specs.declared.outcome.CertOutcome.{CertOutcome}
+use Rattle.hw_command.specs.declared.outcome.CertOutcome.TheVariants.{Shows, Wrong, TooLong}
+use Rattle.hw_command.specs.declared.outcome.CertStop.{CertStop}
+use Rattle.hw_command.specs.declared.outcome.CertStop.TheVariants.{Fault, NoMemory}
+use Rattle.hw_command.specs.declared.status.Status.{Status}
+use Rattle.hw_command.specs.declared.status.Status.TheVariants.{WriteFault}
+use Rattle.hw_command.proofs.Begun.{entered_on, wants_memory}
+use Rattle.hw_command.proofs.CertWorks.{cert_works}
+use Rattle.hw_command.proofs.SentWorks.{broken_works, made, sent_works}
+use Rattle.hw_command.proofs.Stops.{stops_carries}
+use Rattle.hw_split_text.specs.declared.node.Node.{Node}
+use Rattle.hw_split_text.specs.declared.node.Node.TheVariants.{Fork, Part}
+use Rattle.hw_model.specs.declared.lit.Lit.TheVariants.{AtOrAfter, Before}
+use Rattle.hw_split_text.specs.Splits.{Branch, Completes, is_part}
+use Rattle.hw_split_text.specs.Text.{split_of, split_text}
+use Rattle.hw_split_text.specs.Written.{written_split}
+use Rattle.hw_split_choice.specs.Chosen.{IsChosen}
+use Rattle.hw_split_choice.specs.declared.chosen.ChosenSplit.{ChosenSplit}
+use Rattle.hw_split_text.proofs.Covering.{parts_counted}
+use Rattle.hw_subject.specs.Meanings.{judged}
+use Rattle.hw_subject.specs.Reading.{ReadsSubject, StopsAtSubject, naming_of, searched_in}
+use Rattle.hw_subject.specs.Subjects.{Subject, Topic, topic_subject}
+use Rattle.hw_subject.specs.declared.subject.Given.{Given}
+use Rattle.hw_subject.proofs.Certified.{judged_lines, modelled}
+use Rattle.hw_subject.proofs.Certless.{IsCertless, certless}
+use Rattle.hw_subject.proofs.Readings.{before_last}
+use Rattle.hw_subject.proofs.Shows.{ReadsOf, shown_of}
+use Rattle.hw_command_split.specs.MadeSplits.{ChoosesNone, IsChosenBy, IsMadeSplit, IsUndivided, KnowsBest, KnowsNothing, SendsSplit, SplitsTo}
+use Rattle.hw_command_search.specs.Resumes.{Starts}
+use Rattle.hw_command_search.specs.Resuming.{ShowsNothing, shows_nothing}
+use Rattle.hw_command_split.specs.Splitting.{MakesSplit, SplitSays, split_task}
+use Rattle.hw_command_split.specs.declared.splitting.SplitEnd.{SplitEnd}
+use Rattle.hw_command_search.proofs.Resumptions.{ok_same, shown_by}
+use Rattle.hw_command_split.specs.declared.splitting.SplitEnd.TheVariants as outcomes
+use Rattle.hw_model_laws.proofs.Denying.{shape_fits}
+use Rattle.hw_split_text.proofs.Spelled.{one_text}
+
+-- what comes of what was read is what comes of the judged problem
+of_judged : (s : Subject) (start proof : List ℕ) (parts : ℕ) (y z : DeskState) (end : SplitEnd) {x : DeskState} {given : Given} → (h : ReadsSubject s x y given) → SplitsTo (searched_in given.flat given.repair) start parts proof y z end → SplitsTo (judged s h.value) start parts proof y z end
+of_judged s start proof parts y z end h k = subst (λ (f : Problem). SplitsTo f start parts proof y z end) h.searched k
+
+-- all inputs were begun
+all_entered : (topic : Topic) {start : List ℕ} {x y z : DeskState} {given : Given} {result : Result (ReadCert (Unit {0})) CertStop} {f : Problem} → ReadsSubject (topic_subject topic) x y given → ReadsCert Three KeepsNone f start y z result → Entered ((topic_subject topic).inputs ++ named_feed Certificate start ∷ []) x z
+all_entered topic h k = entered_on (topic_subject topic).inputs h.entered k.enters (certless topic).unread
+
+-- what the certificate shows
+abbrev starts : (topic : Topic) {start : List ℕ} {x y z : DeskState} {given : Given} → (h : ReadsSubject (topic_subject topic) x y given) → KnowsBest (judged (topic_subject topic) h.value) start y z → Starts (topic_subject topic) start x.held
+starts topic {start = start} {x = x} {y = y} h k =
+    let s = topic_subject topic in
+    let lines = k.reads.reads.1 in
+    let found = subst (λ (o : CertOutcome). ReadsOf s h.value Three (y.held start) lines.lines o) k.outcome lines.keeps in
+    let there = subst (λ (told : Option (List ℕ)). ReadsOf s h.value Three told lines.lines (Shows k.shows)) (ap (λ held. held start) h.entered.begins.held) found in
+    record {
+      value = h.value;
+      reads = h.reads;
+      shows = k.shows;
+      bound = k.read.bound;
+      table = last_table lines.lines;
+      shown = shown_of s h.value Three (x.held start) lines.lines k.shows k.read.bound (modelled topic h) lines.formed lines.last there;
+    }
+
+-- ---- the inputs give nothing
+
+refuses_says : (s : Subject) (parts : ℕ) (start proof : List ℕ) (x y : DeskState) (r : Report) → IsCertless s → s.Refuses x.held r → SplitSays s parts start proof x y (Some r)
+refuses_says s parts start proof x y (parts_told count tolls) h k = absurd (h.silent x.held _ k refl)
+refuses_says s parts start proof x y (refused number word hint) h k = absurd (h.refused x.held number word hint k)
+refuses_says s parts start proof x y (too_long Certificate) h k = absurd (h.long x.held k)
+refuses_says s parts start proof x y r h k = k
+
+pub subject_stops : (topic : Topic) (parts : ℕ) (start proof : List ℕ) {x y z : DeskState} {r : Report} {e : Status} → StopsAtSubject (topic_subject topic) x y r → Ends (r ∷ []) y z e → Carries (split_task (topic_subject topic) parts start proof) x z e
+subject_stops topic parts start proof {x = x} {y = y} {r = r} h ends = stops_carries (split_task (topic_subject topic) parts start proof) (named_feed Certificate start ∷ []) h refl (λ feed given. given) (refuses_says (topic_subject topic) parts start proof x y r (certless topic)) ends
+
+-- ---- the certificate is refused
+
+nothing_says : (topic : Topic) (parts : ℕ) (proof : List ℕ) (names : Naming) {start : List ℕ} {x y z : DeskState} {given : Given} (result : Result (ReadCert (Unit {0})) CertStop) (stopped : Result CertOutcome CertStop) → (h : ReadsSubject (topic_subject topic) x y given) → ReadsCert Three KeepsNone (searched_in given.flat given.repair) start y z result → stopped ≡ outcome_in result → ShowsNothing stopped → is_common (report_of_check names None None stopped) ≡ false → SplitSays (topic_subject topic) parts start proof x z (Some (report_of_check names None None stopped))
+nothing_says topic parts proof names (Ok read) (Ok (Shows v)) h m is nothing own = absurd (cc)
+nothing_says topic parts proof names {start = start} {x = x} (Ok read) (Ok (Wrong number word hint)) h m is nothing own =
+    let s = topic_subject topic in
+    let k = judged_lines s h m in
+    record { value = h.value; reads = h.reads; outcome = (subst (ReadsOf s h.value Three (x.held start) k.lines) (ok_same (Wrong number word hint) read.outcome is) k.keeps).comes }
+nothing_says topic parts proof names {start = start} {x = x} (Ok read) (Ok TooLong) h m is nothing own =
+    let s = topic_subject topic in
+    let k = judged_lines s h m in
+    record { value = h.value; reads = h.reads; outcome = (subst (ReadsOf s h.value Three (x.held start) k.lines) (ok_same TooLong read.outcome is) k.keeps).comes }
+nothing_says topic parts proof names (Err stop) (Ok o) h m is nothing own = absurd (cc)
+nothing_says topic parts proof names result (Err Fault) h m is nothing own = absurd (cc)
+nothing_says topic parts proof names result (Err NoMemory) h m is nothing own = absurd (cc)
+
+nothing_works : (topic : Topic) (names : Naming) {start proof : List ℕ} {x y z : DeskState} {given : Given} {f : Problem} (result : Result (ReadCert (Unit {0})) CertStop) (stopped : Result CertOutcome CertStop) → ReadsSubject (topic_subject topic) x y given → ReadsCert Three KeepsNone f start y z result → stopped ≡ outcome_in result → Works ((topic_subject topic).inputs ++ named_feed Certificate start ∷ []) ((topic_subject topic).Gives x.held) (Some proof) x z (report_of_check names None None stopped)
+nothing_works topic names {start = start} {proof = proof} {x = x} {z = z} result stopped h m is =
+    let s = topic_subject topic in
+    subst (λ (o : Result CertOutcome CertStop). Works (s.inputs ++ named_feed Certificate start ∷ []) (s.Gives x.held) (Some proof) x z (report_of_check names None None o)) (sym is)
+    (cert_works names None None (Some proof) result h.entered h.read_faults (certless topic).unread (before_last (s.Gives x.held) s.inputs (named_feed Certificate start) h.give) m)
+
+nothing_meets : (topic : Topic) {parts : ℕ} {start proof : List ℕ} {x y z end : DeskState} {given : Given} {e : Status} (names : Naming) (stopped : Result CertOutcome CertStop) → (h : ReadsSubject (topic_subject topic) x y given) → KnowsNothing (searched_in given.flat given.repair) start y z stopped → Ends (report_of_check names None None stopped ∷ []) z end e → Carries (split_task (topic_subject topic) parts start proof) x end e
+nothing_meets topic {parts = parts} {proof = proof} {z = z} names stopped h k ends = record {
+  mid = z;
+  reports = report_of_check names None None stopped ∷ [];
+  works = nothing_works topic names k.result stopped h k.reads k.told;
+  says = λ own. nothing_says topic parts proof names k.result stopped h k.reads k.told k.nothing own;
+  ends = ends;
+}
+
+-- ---- memory ran out
+
+none_meets : (topic : Topic) {parts : ℕ} {start proof : List ℕ} {x y z end : DeskState} {given : Given} {f : Problem} {e : Status} (names : Naming) (stopped : Result CertOutcome CertStop) → ReadsSubject (topic_subject topic) x y given → ChoosesNone f start y z stopped → Ends (report_of_check names None None stopped ∷ []) z end e → Carries (split_task (topic_subject topic) parts start proof) x end e
+none_meets topic {start = start} {proof = proof} {x = x} {z = z} {end = end} {e = e} names stopped h k ends =
+    let s = topic_subject topic in
+    record {
+      mid = z;
+      reports = no_memory ∷ [];
+      works = wants_memory (Some proof) (s.inputs ++ named_feed Certificate start ∷ []) [] (sym (append-nil _)) (all_entered topic h k.knows.reads) (before_last (s.Gives x.held) s.inputs (named_feed Certificate start) h.give) (k.knows.reads.reads.0 ∙ h.read_faults);
+      says = λ own. absurd (cc);
+      ends = subst (λ (o : Result CertOutcome CertStop). Ends (report_of_check names None None o ∷ []) z end e) k.told ends;
+    }
+
+-- ---- the split was sent
+
+abbrev makes : (topic : Topic) {parts : ℕ} {start proof : List ℕ} {x y z : DeskState} {given : Given} {sent : Result Unit Unit} (nodes : List Node) → (h : ReadsSubject (topic_subject topic) x y given) → SendsSplit (judged (topic_subject topic) h.value) start parts proof y z nodes sent → MakesSplit (topic_subject topic) parts start x.held
+makes topic {parts = parts} nodes h k = record {
+  starts = starts topic h k.knows;
+  nodes = nodes;
+  is = k.made.is;
+  few = subst (λ (n : ℕ). n ≤ parts) (sym (parts_counted (shape_of (judged (topic_subject topic) h.value)) nodes k.made.is)) k.made.few;
+  undivided = λ closed. parts_counted (shape_of (judged (topic_subject topic) h.value)) nodes k.made.is ∙ k.undivided closed;
+}
+
+written : (topic : Topic) {parts : ℕ} {x y : DeskState} {given : Given} {nodes : List Node} (text : List ℕ) → (h : ReadsSubject (topic_subject topic) x y given) → IsMadeSplit (judged (topic_subject topic) h.value) parts nodes text → text ≡ written_split nodes
+written topic {nodes = nodes} text h made = one_text (shape_of (judged (topic_subject topic) h.value)) nodes text (shape_fits (judged (topic_subject topic) h.value) (modelled topic h).limits) made.reads
+
+sent_meets : (topic : Topic) {parts : ℕ} {start proof : List ℕ} {x y z end : DeskState} {given : Given} {e : Status} (count tolls : ℕ) (nodes : List Node) → count ≡ count_by is_part nodes → (h : ReadsSubject (topic_subject topic) x y given) → SendsSplit {E = Unit} (judged (topic_subject topic) h.value) start parts proof y z nodes (Ok tt) → Ends (parts_told count tolls ∷ []) z end e → Carries (split_task (topic_subject topic) parts start proof) x end e
+sent_meets topic {start = start} {x = x} {z = z} count tolls nodes is h k ends =
+    let s = topic_subject topic in
+    record {
+      mid = z;
+      reports = parts_told count tolls ∷ [];
+      works = sent_works (parts_told count tolls) refl (all_entered topic h k.knows.reads) (before_last (s.Gives x.held) s.inputs (named_feed Certificate start) h.give) k.sends (k.sends.only.read_faults ∙ (k.knows.reads.reads.0 ∙ h.read_faults));
+      says = λ own. record {
+        makes = makes topic nodes h k;
+        counted = is ∙ sym (parts_counted (shape_of (judged s h.value)) nodes k.made.is);
+        made = made (all_entered topic h k.knows.reads) k.sends;
+        text = told_map (z.trays tray.Proof).sent (λ bytes same. same ∙ written topic k.text h k.made) k.sends.answer.1;
+      };
+      ends = ends;
+    }
+
+broke_meets : (topic : Topic) {parts : ℕ} {start proof : List ℕ} {x y z end : DeskState} {given : Given} {e : Status} (nodes : List Node) → (h : ReadsSubject (topic_subject topic) x y given) → SendsSplit {E = Unit} (judged (topic_subject topic) h.value) start parts proof y z nodes (Err tt) → EndsWith None z end e → Carries (split_task (topic_subject topic) parts start proof) x end e
+broke_meets topic {start = start} {x = x} {z = z} nodes h k ends =
+    let s = topic_subject topic in
+    record {
+      mid = z;
+      reports = [];
+      works = broken_works (all_entered topic h k.knows.reads) (before_last (s.Gives x.held) s.inputs (named_feed Certificate start) h.give) (k.knows.reads.reads.0 ∙ h.read_faults) k.sends;
+      says = λ own. record { makes = makes topic nodes h k; cut = rw (sym (written topic k.text h k.made)) k.sends.answer.1 };
+      ends = ends;
+    }
+
+-- ---- by what comes of the certificate
+
+pub stopped_carries : (topic : Topic) {parts : ℕ} {start proof : List ℕ} {x y end : DeskState} {given : Given} {e : Status} (z : DeskState) (stopped : Result CertOutcome CertStop) → ReadsSubject (topic_subject topic) x y given → SplitsTo (searched_in given.flat given.repair) start parts proof y z (outcomes.Stopped stopped) → Ends (report_of_check (naming_of given.named) None None stopped ∷ []) z end e → Carries (split_task (topic_subject topic) parts start proof) x end e
+stopped_carries topic {given = given} z stopped h (inl k) ends = nothing_meets topic (naming_of given.named) stopped h k ends
+stopped_carries topic {given = given} z stopped h (inr k) ends = none_meets topic (naming_of given.named) stopped h k ends
+
+pub sent_carries : (topic : Topic) {parts : ℕ} {start proof : List ℕ} {x y end : DeskState} {given : Given} {e : Status} (z : DeskState) (count tolls : ℕ) → ReadsSubject (topic_subject topic) x y given → SplitsTo (searched_in given.flat given.repair) start parts proof y z (outcomes.Sent count tolls) → Ends (parts_told count tolls ∷ []) z end e → Carries (split_task (topic_subject topic) parts start proof) x end e
+sent_carries topic {parts = parts} {start = start} {proof = proof} {y = y} z count tolls h k ends =
+    let there = of_judged (topic_subject topic) start proof parts y z (outcomes.Sent count tolls) h k in
+    sent_meets topic count tolls there.0 there.1 h there.2 ends
+
+pub broke_carries : (topic : Topic) {parts : ℕ} {start proof : List ℕ} {x y : DeskState} {given : Given} (z : DeskState) → ReadsSubject (topic_subject topic) x y given → SplitsTo (searched_in given.flat given.repair) start parts proof y z outcomes.WriteFailed → Carries (split_task (topic_subject topic) parts start proof) x z WriteFault
+broke_carries topic {parts = parts} {start = start} {proof = proof} {y = y} z h k =
+    let there = of_judged (topic_subject topic) start proof parts y z outcomes.WriteFailed h k in
+    broke_meets topic there.0 h there.1 (refl, refl)
+
+-- ---- what was kept of the certificate
+
+abbrev pub knows : {f : Problem} {start : List ℕ} {x y : DeskState} (read : ReadCert (Unit {0})) → ReadsCert Three KeepsNone f start x y (Ok read) → shows_nothing read.outcome ≡ false → KnowsBest f start x y
+knows read h e = let v = shown_by read.outcome e in record { read = read; shows = v.0; reads = h; outcome = v.1 }
+
+-- a split that was chosen
+pub made_split : {f : Problem} {parts : ℕ} {c : ChosenSplit} → IsChosen f parts c → IsMadeSplit f parts c.split c.text.items
+made_split h = record { reads = h.text; is = h.is; few = h.few }
+
+-- where a branch waits, there is a part
+some_part : (shape : Shape) (branch : Branch) (waiting : List Branch) (nodes : List Node) → Completes shape (branch ∷ waiting) nodes → 1 ≤ count_by is_part nodes
+some_part shape branch waiting [] c = absurd (cc)
+some_part shape branch waiting (Fork ship slot ∷ nodes) c =
+    let later = some_part shape (branch ++ Before ship slot ∷ []) ((branch ++ AtOrAfter ship slot ∷ []) ∷ waiting) nodes c.1 in
+    omega (arith, later, sum_by-cons (λ (node : Node). cond (is_part node) 1 0) (Fork ship slot) nodes)
+some_part shape branch waiting (Part ∷ nodes) c = omega (arith, sum_by-cons (λ (node : Node). cond (is_part node) 1 0) Part nodes)
+
+-- one part is as few as any
+pub one_chosen : {E : Type 0} (f : Problem) {parts : ℕ} (outcome : CertOutcome) (r : Result ChosenSplit E) → 1 ≤ parts → IfOk r (IsChosen f 1) → IfOk r (IsChosenBy f outcome parts)
+one_chosen f outcome (Ok c) some h =
+    let least = some_part (shape_of f) [] [] c.split h.is in
+    record {
+      chosen = record { text = h.text; is = h.is; few = omega (arith, h.few, some) };
+      undivided = λ closed. omega (arith, h.few, least);
+    }
+one_chosen f outcome (Err stop) some h = h
+
+-- its text isn't empty
+pub text_some : (shape : Shape) (text : List ℕ) (nodes : List Node) → split_text shape text ≡ Ok nodes → 0 < length text
+unfolding split_of
+text_some shape [] nodes e = absurd (cc)
+text_some shape (byte ∷ more) nodes e = omega arith
+
+pub sent_whole : {E : Type 0} {f : Problem} {start proof text : List ℕ} {parts : ℕ} {x y z : DeskState} {nodes : List Node} {u : Unit {0}} (read : ReadCert (Unit {0})) → ReadsCert Three KeepsNone f start x y (Ok read) → shows_nothing read.outcome ≡ false → IsMadeSplit f parts nodes text → IsUndivided read.outcome nodes → SendsTo {E = E} proof text y z (Ok u) → SendsSplit {E = Unit} f start parts proof x z nodes (Ok tt)
+sent_whole {text = text} {y = y} {nodes = nodes} read h e is one sends = record { mid = y; knows = knows read h e; text = text; made = is; undivided = subst (λ (o : CertOutcome). IsUndivided o nodes) (knows read h e).outcome one; sends = record { only = sends.only; made = sends.made; named = sends.named; answer = sends.answer } }
+
+pub sent_short : {E : Type 0} {f : Problem} {start proof text : List ℕ} {parts : ℕ} {x y z : DeskState} {nodes : List Node} {fault : E} (read : ReadCert (Unit {0})) → ReadsCert Three KeepsNone f start x y (Ok read) → shows_nothing read.outcome ≡ false → IsMadeSplit f parts nodes text → IsUndivided read.outcome nodes → SendsTo {E = E} proof text y z (Err fault) → SendsSplit {E = Unit} f start parts proof x z nodes (Err tt)
+sent_short {text = text} {y = y} {nodes = nodes} read h e is one sends = record { mid = y; knows = knows read h e; text = text; made = is; undivided = subst (λ (o : CertOutcome). IsUndivided o nodes) (knows read h e).outcome one; sends = record { only = sends.only; made = sends.made; named = sends.named; answer = sends.answer } }

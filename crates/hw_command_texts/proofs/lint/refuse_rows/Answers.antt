@@ -1,0 +1,5 @@
+use Rattle.hw_command_texts.proofs.Linting.{hinted_told}
+use Rattle.hw_command_texts.proofs.lint.refuse_rows.Goals as goal
+
+pub returns : goal.returns
+returns g c = hinted_told _ c.table_hints-hints.result c.table_hints-hints.ensures c.send_hinted.ensures

@@ -1,0 +1,11 @@
+pub mod Listings
+pub mod Listed
+pub mod Tables
+pub mod Flattening
+pub mod ExplainPort
+pub mod Laws
+pub mod Lints
+pub mod Linted
+pub mod Explains
+pub mod Texts
+pub mod RepairLaws

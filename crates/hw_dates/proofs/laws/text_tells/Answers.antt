@@ -1,5 +1,0 @@
-use Rattle.hw_dates.proofs.Texts.{text_law}
-use Rattle.hw_dates.proofs.laws.text_tells.Goals as goal
-
-pub returns : goal.returns
-returns c = text_law

@@ -1,6 +1,0 @@
-use Rattle.std.proofs.Common.{◌≡◌, map, take}
-use Rattle.hw_derived.specs.Fleets.{lessened_rule}
-use Rattle.hw_derived.proofs.rules.lessened_rules.Given as goal
-
-abbrev pub invariant-loop-rule : goal.invariant-loop-rule
-invariant-loop-rule l = l.list.items ≡ map (lessened_rule l.withdrawn) (take l.rule-index l.rules)

@@ -1,5 +1,0 @@
-use Rattle.hw_explain.proofs.Numbers.{each_is_named}
-use Rattle.hw_explain.proofs.laws.each_is_named.Goals as goal
-
-pub returns : goal.returns
-returns c = each_is_named

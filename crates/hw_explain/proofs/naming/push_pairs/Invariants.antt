@@ -1,6 +1,0 @@
-use Rattle.std.proofs.Common.{◌≡◌, ◌++◌, drop}
-use Rattle.hw_explain.specs.Restrictions.{named_from}
-use Rattle.hw_explain.proofs.naming.push_pairs.Given as goal
-
-abbrev pub invariant-loop-v : goal.invariant-loop-v
-invariant-loop-v l = l.list.items ++ named_from l.parts l.v (drop l.v l.ships) ≡ l.fn.list.items ++ named_from l.parts 0 l.ships

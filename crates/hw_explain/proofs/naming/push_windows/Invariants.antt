@@ -1,7 +1,0 @@
-use Rattle.std.proofs.Common.{◌≡◌, ◌++◌, map}
-use Rattle.std.specs.List.{range_with_len}
-use Rattle.hw_explain.specs.declared.named.Named.TheVariants.{Window}
-use Rattle.hw_explain.proofs.naming.push_windows.Given as goal
-
-abbrev pub invariant-loop-ship : goal.invariant-loop-ship
-invariant-loop-ship l = l.list.items ≡ l.fn.list.items ++ map (λ v. Window v) (range_with_len 0 l.ship)

@@ -1,5 +1,0 @@
-use Rattle.std.proofs.Common.{length}
-use Rattle.hw_explain_repair.proofs.cargo.+worths.Given as goal
-
-abbrev pub decreases-worths : goal.decreases-worths
-decreases-worths l = length l.slots.now

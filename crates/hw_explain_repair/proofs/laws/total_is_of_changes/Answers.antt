@@ -1,5 +1,0 @@
-use Rattle.hw_explain_repair.proofs.Told.{total_is_of_changes_law}
-use Rattle.hw_explain_repair.proofs.laws.total_is_of_changes.Goals as goal
-
-pub returns : goal.returns
-returns c = total_is_of_changes_law

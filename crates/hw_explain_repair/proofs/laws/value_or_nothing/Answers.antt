@@ -1,5 +1,0 @@
-use Rattle.hw_explain_repair.proofs.Told.{value_or_nothing_law}
-use Rattle.hw_explain_repair.proofs.laws.value_or_nothing.Goals as goal
-
-pub returns : goal.returns
-returns c = value_or_nothing_law

@@ -1,5 +1,0 @@
-use Rattle.std.proofs.Common.{length}
-use Rattle.hw_explain_repair.proofs.telling.+put_ships.Given as goal
-
-abbrev pub decreases-put_ships : goal.decreases-put_ships
-decreases-put_ships g l = length l.wishes.now

@@ -1,4 +1,0 @@
-use Rattle.hw_flat_chart.proofs.bars.+put_fleet_bars.Given as goal
-
-abbrev pub decreases-put_fleet_bars : goal.decreases-put_fleet_bars
-decreases-put_fleet_bars g l = l.fleets.left

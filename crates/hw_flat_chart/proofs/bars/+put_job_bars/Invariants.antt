@@ -1,5 +1,0 @@
-use Rattle.std.proofs.Common.{length}
-use Rattle.hw_flat_chart.proofs.bars.+put_job_bars.Given as goal
-
-abbrev pub decreases-put_job_bars : goal.decreases-put_job_bars
-decreases-put_job_bars g l = length l.jobs.now

@@ -1,4 +1,0 @@
-use Rattle.hw_flat_chart.proofs.fleets.+count.Given as goal
-
-abbrev pub decreases-count : goal.decreases-count
-decreases-count l = l.fleets.left

@@ -1,8 +1,0 @@
-use Rattle.std.proofs.Common.{length}
-use Rattle.hw_flat_chart.proofs.Fits.{jobs_fit}
-use Rattle.hw_flat_chart.proofs.marks.+some_hold_tugs.Goals as goal
-
-pub some_job_is_done-requires : goal.some_job_is_done-requires
-some_job_is_done-requires t c =
-    let ships = length c.args.table.now in
-    rw (c.as_slice.ensures.value, c.jobs.ensures) (jobs_fit ships c.in-Some.found.rule.now (c.in-Some.ensures.rule ships c.requires))

@@ -1,4 +1,0 @@
-use Rattle.hw_flat_chart.proofs.marks.+some_is_held_whole.Given as goal
-
-abbrev pub decreases-some_is_held_whole : goal.decreases-some_is_held_whole
-decreases-some_is_held_whole l = l.fleets.left

@@ -1,4 +1,0 @@
-use Rattle.hw_flat_chart.proofs.panels.+put_planned_panels.Given as goal
-
-abbrev pub decreases-put_planned_panels : goal.decreases-put_planned_panels
-decreases-put_planned_panels g l = l.fleets.left

@@ -1,4 +1,0 @@
-use Rattle.hw_flat_chart.proofs.panels.+put_unplanned_panels.Given as goal
-
-abbrev pub decreases-put_unplanned_panels : goal.decreases-put_unplanned_panels
-decreases-put_unplanned_panels g l = l.fleets.left

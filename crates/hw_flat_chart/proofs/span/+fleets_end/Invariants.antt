@@ -1,4 +1,0 @@
-use Rattle.hw_flat_chart.proofs.span.+fleets_end.Given as goal
-
-abbrev pub decreases-fleets_end : goal.decreases-fleets_end
-decreases-fleets_end l = l.fleets.left

@@ -1,7 +1,0 @@
-pub mod Numbers
-pub mod Words
-pub mod Texts
-pub mod Clauses
-pub mod Rooms
-pub mod Setting
-pub mod Rules

@@ -1,5 +1,0 @@
-use Rattle.hw_laws.proofs.Alikes.{alike_refutes}
-use Rattle.hw_laws.proofs.laws.alike_refuted.Goals as goal
-
-pub returns : goal.returns
-returns c = alike_refutes

@@ -1,5 +1,0 @@
-use Rattle.hw_laws.proofs.Denying.{shape_fits}
-use Rattle.hw_laws.proofs.laws.flat_shape.Goals as goal
-
-pub returns : goal.returns
-returns c = shape_fits

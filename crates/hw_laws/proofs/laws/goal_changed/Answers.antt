@@ -1,5 +1,0 @@
-use Rattle.hw_laws.proofs.Sums.{goal_changed}
-use Rattle.hw_laws.proofs.laws.goal_changed.Goals as goal
-
-pub returns : goal.returns
-returns c = goal_changed

@@ -1,5 +1,0 @@
-use Rattle.hw_laws.proofs.Quiets.{best_quiet}
-use Rattle.hw_laws.proofs.laws.other_best.Goals as goal
-
-pub returns : goal.returns
-returns c = best_quiet

@@ -1,5 +1,0 @@
-use Rattle.hw_laws.proofs.Permitted.{has_cargo}
-use Rattle.hw_laws.proofs.laws.permitted_cargo.Goals as goal
-
-pub returns : goal.returns
-returns c = has_cargo

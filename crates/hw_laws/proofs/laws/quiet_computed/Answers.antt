@@ -1,5 +1,0 @@
-use Rattle.hw_laws.proofs.QuietTests.{quiet_tested}
-use Rattle.hw_laws.proofs.laws.quiet_computed.Goals as goal
-
-pub returns : goal.returns
-returns c = quiet_tested

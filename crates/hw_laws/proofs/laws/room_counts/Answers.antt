@@ -1,5 +1,0 @@
-use Rattle.hw_laws.proofs.Rows as rows
-use Rattle.hw_laws.proofs.laws.room_counts.Goals as goal
-
-pub returns : goal.returns
-returns c = rows.room_counts

@@ -1,5 +1,0 @@
-use Rattle.hw_laws.proofs.Sums.{tugs_changed}
-use Rattle.hw_laws.proofs.laws.tugs_changed.Goals as goal
-
-pub returns : goal.returns
-returns c = tugs_changed

@@ -1,5 +1,0 @@
-use Rattle.hw_laws.proofs.Quiets.{unspoken_both}
-use Rattle.hw_laws.proofs.laws.unspoken_cut.Goals as goal
-
-pub returns : goal.returns
-returns c = unspoken_both

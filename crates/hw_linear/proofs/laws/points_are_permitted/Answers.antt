@@ -1,5 +1,0 @@
-use Rattle.hw_linear.proofs.Found.{satisfied, permitted, same_table}
-use Rattle.hw_linear.proofs.laws.points_are_permitted.Goals as goal
-
-pub returns : goal.returns
-returns c = record { permitted_satisfies = satisfied; satisfying_is_permitted = permitted; one_timetable = same_table }

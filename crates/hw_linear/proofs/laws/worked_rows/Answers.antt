@@ -1,5 +1,0 @@
-use Rattle.std.proofs.Common.{refl}
-use Rattle.hw_linear.proofs.laws.worked_rows.Goals as goal
-
-pub returns : goal.returns
-returns c = record { two_apart_rows = refl; three_apart_rows = refl; one_waits_rows = refl; three_tugs_rows = refl; four_tugs_rows = refl; nowhere_rows = refl }

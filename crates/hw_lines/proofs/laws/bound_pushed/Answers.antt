@@ -1,5 +1,0 @@
-use Rattle.hw_lines.proofs.Added.{bound_added}
-use Rattle.hw_lines.proofs.laws.bound_pushed.Goals as goal
-
-pub returns : goal.returns
-returns c = bound_added

@@ -1,5 +1,0 @@
-use Rattle.hw_lines.proofs.Pushed.{clause_added}
-use Rattle.hw_lines.proofs.laws.clause_pushed.Goals as goal
-
-pub returns : goal.returns
-returns c = clause_added

@@ -1,5 +1,0 @@
-use Rattle.hw_lines.proofs.Pushed.{numbers_deleted}
-use Rattle.hw_lines.proofs.laws.deletion_pushed.Goals as goal
-
-pub returns : goal.returns
-returns c = numbers_deleted

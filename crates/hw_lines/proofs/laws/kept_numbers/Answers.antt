@@ -1,5 +1,0 @@
-use Rattle.hw_lines.proofs.Keeping.{kept_numbers}
-use Rattle.hw_lines.proofs.laws.kept_numbers.Goals as goal
-
-pub returns : goal.returns
-returns c = kept_numbers

@@ -1,5 +1,0 @@
-use Rattle.hw_lines.proofs.Keeping.{kept_pushed}
-use Rattle.hw_lines.proofs.laws.kept_pushed.Goals as goal
-
-pub returns : goal.returns
-returns c = kept_pushed

@@ -1,5 +1,0 @@
-use Rattle.hw_lines.proofs.Pushed.{one_more}
-use Rattle.hw_lines.proofs.laws.lines_pushed.Goals as goal
-
-pub returns : goal.returns
-returns c = one_more

@@ -1,5 +1,0 @@
-use Rattle.hw_lines.proofs.Pushed.{table_added}
-use Rattle.hw_lines.proofs.laws.table_pushed.Goals as goal
-
-pub returns : goal.returns
-returns c = table_added

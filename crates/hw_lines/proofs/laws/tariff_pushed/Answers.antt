@@ -1,5 +1,0 @@
-use Rattle.hw_lines.proofs.Added.{tariff_added}
-use Rattle.hw_lines.proofs.laws.tariff_pushed.Goals as goal
-
-pub returns : goal.returns
-returns c = tariff_added

@@ -1,5 +1,0 @@
-use Rattle.hw_lines.proofs.Deleted.{valid_deletes}
-use Rattle.hw_lines.proofs.laws.valid_deletes.Goals as goal
-
-pub returns : goal.returns
-returns c = valid_deletes

@@ -1,5 +1,0 @@
-use Rattle.hw_lines.proofs.Priced.{valid_tolls}
-use Rattle.hw_lines.proofs.laws.valid_tolls.Goals as goal
-
-pub returns : goal.returns
-returns c = valid_tolls

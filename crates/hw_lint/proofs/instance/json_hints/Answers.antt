@@ -1,5 +1,0 @@
-use Rattle.hw_lint.proofs.Told.{break_told}
-use Rattle.hw_lint.proofs.instance.json_hints.Goals as goal
-
-pub returns : goal.returns
-returns c = break_told c.break_hints.result _ _ _ c.break_hints.ensures

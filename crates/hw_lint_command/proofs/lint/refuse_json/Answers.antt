@@ -1,5 +1,0 @@
-use Rattle.hw_lint_command.proofs.Linting.{hinted_told}
-use Rattle.hw_lint_command.proofs.lint.refuse_json.Goals as goal
-
-pub returns : goal.returns
-returns g c = hinted_told _ c.json_hints-hints.result c.json_hints-hints.ensures c.send_hinted.ensures

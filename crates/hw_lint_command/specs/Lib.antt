@@ -1,2 +1,0 @@
-pub mod Lints
-pub mod Linted

@@ -1,5 +1,0 @@
-mod Carried
-pub mod Decided
-pub mod OfPort
-mod Tabled
-pub mod Told

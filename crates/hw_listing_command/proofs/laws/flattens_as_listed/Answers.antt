@@ -1,5 +1,0 @@
-use Rattle.hw_listing_command.proofs.OfPort.{flattens_as_listed_law}
-use Rattle.hw_listing_command.proofs.laws.flattens_as_listed.Goals as goal
-
-pub returns : goal.returns
-returns c = flattens_as_listed_law

@@ -1,5 +1,0 @@
-use Rattle.hw_listing_command.proofs.Told.{tables_as_verified_law}
-use Rattle.hw_listing_command.proofs.laws.tables_as_verified.Goals as goal
-
-pub returns : goal.returns
-returns c = tables_as_verified_law

@@ -1,5 +1,0 @@
-use Rattle.hw_parts.specs.Narrowings.{IsUnderWay}
-use Rattle.hw_parts.proofs.closing.by_clauses.Given as goal
-
-abbrev pub invariant-loop-line : goal.invariant-loop-line
-invariant-loop-line l = IsUnderWay l.ground.flat.now l.narrowing

@@ -1,0 +1,54 @@
+-- Problems with fewer tugs: their limits, and what is the same.
+use Rattle.std.proofs.Common.{◌≡◌, ℕ, ◌+◌, ◌-◌, List, [], ◌∷◌, map, refl, ap, ◌∙◌, arith}
+use Rattle.std.proofs.lemmas.List.{length-map}
+use Rattle.std.proofs.lemmas.List.Elements.{All-map, All-weaker}
+use Rattle.hw_model.specs.declared.rule.Rule.{Rule}
+use Rattle.hw_model.specs.declared.rule.Rule.TheVariants.{Pair, After, Tugs}
+use Rattle.hw_model.specs.Limits.{IsFlat, RuleFits}
+use Rattle.hw_model.specs.Problem.{Problem, value_at}
+use Rattle.hw_model.specs.Timetables.{cargo_from, plus}
+use Rattle.hw_plan_texts.specs.Fleets.{lessened_rule, lessened}
+
+-- ---- limits
+
+pub rule_fits : (ships withdrawn : ℕ) (rule : Rule) → RuleFits ships rule → RuleFits ships (lessened_rule withdrawn rule)
+rule_fits ships withdrawn (Pair v w holes) fits = fits
+rule_fits ships withdrawn (After v w gap) fits = fits
+rule_fits ships withdrawn (Tugs fleet jobs) fits = record { small_fleet = omega (arith, fits.small_fleet); some_job = fits.some_job; few_jobs = fits.few_jobs; each_job = fits.each_job; ascends = fits.ascends }
+
+pub lessened_fits : (f : Problem) (withdrawn : ℕ) → IsFlat f → IsFlat (lessened withdrawn f)
+lessened_fits f withdrawn flat = record {
+  some_ship = flat.some_ship;
+  few_ships = flat.few_ships;
+  some_slot = flat.some_slot;
+  few_slots = flat.few_slots;
+  each_value = flat.each_value;
+  last_value = flat.last_value;
+  small_values = flat.small_values;
+  few_rules = omega (arith, length-map f.rules (lessened_rule withdrawn), flat.few_rules);
+  each_rule = All-map (RuleFits f.ships) (lessened_rule withdrawn) f.rules (All-weaker (RuleFits f.ships) (λ rule. RuleFits f.ships (lessened_rule withdrawn rule)) (rule_fits f.ships withdrawn) f.rules flat.each_rule);
+}
+
+-- ---- with no tug fewer
+
+same_rule : (rule : Rule) → lessened_rule 0 rule ≡ rule
+same_rule (Pair v w holes) = refl
+same_rule (After v w gap) = refl
+same_rule (Tugs fleet jobs) = let e : fleet - 0 ≡ fleet = omega arith in ap (λ n. Tugs n jobs) e
+
+same_rules : (rules : List Rule) → map (lessened_rule 0) rules ≡ rules
+same_rules [] = refl
+same_rules (rule ∷ rules) = ap (λ r. r ∷ map (lessened_rule 0) rules) (same_rule rule) ∙ ap (λ rs. rule ∷ rs) (same_rules rules)
+
+pub with_rules : Problem → List Rule → Problem
+with_rules f rules = record { ships = f.ships; slots = f.slots; stay = f.stay; values = f.values; rules = rules }
+
+pub same_problem : (f : Problem) → lessened 0 f ≡ f
+unfolding with_rules
+same_problem f = ap (with_rules f) (same_rules f.rules)
+
+-- ---- cargo
+
+pub lessened_cargo : (withdrawn : ℕ) (f : Problem) (ship : ℕ) (slots : List ℕ) → cargo_from (lessened withdrawn f) ship slots ≡ cargo_from f ship slots
+lessened_cargo withdrawn f ship [] = refl
+lessened_cargo withdrawn f ship (slot ∷ slots) = ap (plus (value_at f ship slot)) (lessened_cargo withdrawn f (ship + 1) slots)

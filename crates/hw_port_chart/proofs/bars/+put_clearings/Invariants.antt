@@ -1,5 +1,0 @@
-use Rattle.std.proofs.Common.{length}
-use Rattle.hw_port_chart.proofs.bars.+put_clearings.Given as goal
-
-abbrev pub decreases-put_clearings : goal.decreases-put_clearings
-decreases-put_clearings g l = length l.pairs.now

@@ -1,5 +1,0 @@
-use Rattle.std.proofs.Common.{length}
-use Rattle.hw_port_chart.proofs.lane.+put_lanes.Given as goal
-
-abbrev pub decreases-put_lanes : goal.decreases-put_lanes
-decreases-put_lanes g l = length l.sections.now

@@ -1,5 +1,0 @@
-use Rattle.std.proofs.Common.{length}
-use Rattle.hw_port_chart.proofs.marks.+awaits_berth.Given as goal
-
-abbrev pub decreases-awaits_berth : goal.decreases-awaits_berth
-decreases-awaits_berth l = length l.pairs.now

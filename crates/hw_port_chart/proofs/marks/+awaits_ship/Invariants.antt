@@ -1,5 +1,0 @@
-use Rattle.std.proofs.Common.{length}
-use Rattle.hw_port_chart.proofs.marks.+awaits_ship.Given as goal
-
-abbrev pub decreases-awaits_ship : goal.decreases-awaits_ship
-decreases-awaits_ship l = length l.pairs.now

@@ -1,5 +1,0 @@
-use Rattle.std.proofs.Common.{length}
-use Rattle.hw_port_chart.proofs.passing.+put_marks.Given as goal
-
-abbrev pub decreases-put_marks : goal.decreases-put_marks
-decreases-put_marks g l = length l.ships.now

@@ -1,5 +1,0 @@
-use Rattle.std.proofs.Common.{length}
-use Rattle.hw_port_chart.proofs.span.+ends.Given as goal
-
-abbrev pub decreases-ends : goal.decreases-ends
-decreases-ends l = length l.ships.now

@@ -1,5 +1,0 @@
-use Rattle.std.proofs.Common.{length}
-use Rattle.hw_port_chart.proofs.stays.+put_stays.Given as goal
-
-abbrev pub decreases-put_stays : goal.decreases-put_stays
-decreases-put_stays g l = length l.pairs.now

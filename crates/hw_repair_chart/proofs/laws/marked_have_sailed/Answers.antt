@@ -1,5 +1,0 @@
-use Rattle.hw_repair_chart.proofs.Told.{marked_have_sailed_law}
-use Rattle.hw_repair_chart.proofs.laws.marked_have_sailed.Goals as goal
-
-pub returns : goal.returns
-returns c = marked_have_sailed_law

@@ -1,5 +1,0 @@
-use Rattle.hw_desk.proofs.Written.{puts_on}
-use Rattle.hw_repair_chart.proofs.mark.put_sailed_sign.Goals as goal
-
-pub returns : goal.returns
-returns g c = puts_on (rw c.slot_title-title.ensures at c.put_sign.ensures) c.put_pin.ensures

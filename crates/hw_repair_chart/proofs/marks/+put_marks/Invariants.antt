@@ -1,5 +1,0 @@
-use Rattle.std.proofs.Common.{length}
-use Rattle.hw_repair_chart.proofs.marks.+put_marks.Given as goal
-
-abbrev pub decreases-put_marks : goal.decreases-put_marks
-decreases-put_marks g l = length l.wishes.now

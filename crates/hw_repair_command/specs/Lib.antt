@@ -1,3 +1,0 @@
-pub mod Explains
-pub mod Texts
-pub mod Laws

@@ -1,6 +1,0 @@
-use Rattle.std.proofs.Common.{drop}
-use Rattle.hw_search_command.proofs.Demonstrated.{Checked}
-use Rattle.hw_search_command.proofs.demonstration.check_all.Given as goal
-
-abbrev pub invariant-loop-line : goal.invariant-loop-line
-invariant-loop-line l = Checked l.flat l.lines (drop l.line-index l.lines) l.checker

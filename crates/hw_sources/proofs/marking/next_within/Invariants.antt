@@ -1,5 +1,0 @@
-use Rattle.hw_sources.specs.Marks.{ClearWithin}
-use Rattle.hw_sources.proofs.marking.next_within.Given as goal
-
-abbrev pub invariant-loop-place : goal.invariant-loop-place
-invariant-loop-place l = ClearWithin l.marks l.from l.place

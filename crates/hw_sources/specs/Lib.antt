@@ -1,4 +1,0 @@
-pub mod Any
-pub mod MadeFor
-pub mod Marks
-pub mod Speaking

@@ -1,5 +1,0 @@
-use Rattle.hw_split.proofs.Covering.{literals_fit}
-use Rattle.hw_split.proofs.laws.literals_fit.Goals as goal
-
-pub returns : goal.returns
-returns c = literals_fit

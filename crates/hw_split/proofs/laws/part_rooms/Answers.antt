@@ -1,5 +1,0 @@
-use Rattle.hw_split.proofs.Covering.{part_rooms}
-use Rattle.hw_split.proofs.laws.part_rooms.Goals as goal
-
-pub returns : goal.returns
-returns c = part_rooms

@@ -1,5 +1,0 @@
-use Rattle.hw_split.proofs.Covering.{parts_counted}
-use Rattle.hw_split.proofs.laws.parts_counted.Goals as goal
-
-pub returns : goal.returns
-returns c = parts_counted

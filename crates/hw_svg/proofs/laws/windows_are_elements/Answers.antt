@@ -1,8 +1,0 @@
-use Rattle.std.proofs.Common.{append_assoc}
-use Rattle.hw_svg.specs.Names.{byte_text}
-use Rattle.hw_svg.specs.Sheets.{window_begin}
-use Rattle.hw_svg.proofs.laws.windows_are_elements.Goals as goal
-
-pub returns : goal.returns
-unfolding byte_text window_begin
-returns c = λ w inside. simp append_assoc

@@ -1,5 +1,0 @@
-use Rattle.hw_table.proofs.Told.{told_law}
-use Rattle.hw_table.proofs.laws.records_are_true.Goals as goal
-
-pub returns : goal.returns
-returns c = told_law

@@ -1,5 +1,0 @@
-use Rattle.hw_table.proofs.Told.{times_law}
-use Rattle.hw_table.proofs.laws.times_are_true.Goals as goal
-
-pub returns : goal.returns
-returns c = times_law

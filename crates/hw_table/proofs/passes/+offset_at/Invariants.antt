@@ -1,5 +1,0 @@
-use Rattle.std.proofs.Common.{length}
-use Rattle.hw_table.proofs.passes.+offset_at.Given as goal
-
-abbrev pub decreases-offset_at : goal.decreases-offset_at
-decreases-offset_at l = length l.route.now

@@ -1,5 +1,0 @@
-use Rattle.std.proofs.Common.{length}
-use Rattle.hw_table.proofs.record.+put_no_passes.Given as goal
-
-abbrev pub decreases-put_no_passes : goal.decreases-put_no_passes
-decreases-put_no_passes g l = length l.waypoints.now

@@ -1,9 +1,0 @@
-use Rattle.std.proofs.Common.{decimal}
-use Rattle.hw_desk.proofs.Written.{puts_on, puts_same}
-use Rattle.hw_table.specs.Entries.{table_entry}
-use Rattle.hw_table.specs.Tables.{course_fields}
-use Rattle.hw_table.proofs.Texts.{record_is}
-use Rattle.hw_table.proofs.record.put_record.Goals as goal
-
-pub returns : goal.returns
-returns g c = puts_same _ (record_is (decimal c.args.number) c.args.ship.now.name c.args.ship.now.direction (course_fields c.args.port.now c.args.tide.now (table_entry c.args.number c.args.ship.now c.args.slot))) (puts_on c.put_ship.ensures (puts_on c.put_course.ensures c.put_line_end.ensures))

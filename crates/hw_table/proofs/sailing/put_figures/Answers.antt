@@ -1,6 +1,0 @@
-use Rattle.hw_desk.proofs.Written.{puts_on, puts_same}
-use Rattle.hw_table.proofs.Texts.{figures_is}
-use Rattle.hw_table.proofs.sailing.put_figures.Goals as goal
-
-pub returns : goal.returns
-returns g c = puts_same _ (figures_is c.args.sailing.now) (puts_on c.put_slot.ensures (puts_on c.put_begin.ensures c.put_water.ensures))

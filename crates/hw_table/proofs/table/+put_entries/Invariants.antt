@@ -1,5 +1,0 @@
-use Rattle.std.proofs.Common.{length}
-use Rattle.hw_table.proofs.table.+put_entries.Given as goal
-
-abbrev pub decreases-put_entries : goal.decreases-put_entries
-decreases-put_entries g l = length l.ships.now

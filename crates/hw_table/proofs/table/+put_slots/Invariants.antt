@@ -1,4 +1,0 @@
-use Rattle.hw_table.proofs.table.+put_slots.Given as goal
-
-abbrev pub decreases-put_slots : goal.decreases-put_slots
-decreases-put_slots g l = l.count

@@ -1,6 +1,0 @@
-use Rattle.hw_desk.proofs.Written.{puts_same}
-use Rattle.hw_table.proofs.Texts.{plan_same}
-use Rattle.hw_table.proofs.table.put_plan.Goals as goal
-
-pub returns : goal.returns
-returns g c = puts_same _ (plan_same c.args.plan.now) (rw c.slots_of.ensures.value at c.put_slots.ensures)

@@ -1,7 +1,0 @@
-use Rattle.std.proofs.Common.{ℕ, ◌<◌, get_or}
-use Rattle.hw_tolls.specs.declared.tariff.Due.{Due}
-use Rattle.hw_tolls.specs.Prices.{DueFits}
-use Rattle.hw_tariff.proofs.fitting.each_due_fits.Given as goal
-
-abbrev pub invariant-loop-due : goal.invariant-loop-due
-invariant-loop-due l = (k : ℕ) (d : Due) → k < l.due-index → DueFits l.tolls (get_or l.dues k d)

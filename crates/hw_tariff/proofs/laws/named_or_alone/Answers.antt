@@ -1,5 +1,0 @@
-use Rattle.hw_tariff.proofs.Alone.{named_or_alone}
-use Rattle.hw_tariff.proofs.laws.named_or_alone.Goals as goal
-
-pub returns : goal.returns
-returns c = named_or_alone

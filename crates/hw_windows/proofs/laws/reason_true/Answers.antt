@@ -1,5 +1,0 @@
-use Rattle.hw_windows.proofs.Statuses.{reason_law}
-use Rattle.hw_windows.proofs.laws.reason_true.Goals as goal
-
-pub returns : goal.returns
-returns c = reason_law

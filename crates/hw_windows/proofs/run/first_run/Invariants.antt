@@ -1,7 +1,0 @@
-use Rattle.std.proofs.Common.{◌+◌}
-use Rattle.hw_windows.specs.Windows.{statuses}
-use Rattle.hw_windows.proofs.Runs.{GoesOn}
-use Rattle.hw_windows.proofs.run.first_run.Given as goal
-
-abbrev pub invariant-loop-slot : goal.invariant-loop-slot
-invariant-loop-slot l = GoesOn (statuses l.asked) (l.span.last + 1) l.span.first l.slot
