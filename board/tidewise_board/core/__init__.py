@@ -1,0 +1,1 @@
+"""What the page and the command `tw` share: the program, the store, runs, and the one place that says "proved"."""

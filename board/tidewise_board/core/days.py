@@ -1,0 +1,267 @@
+"""A day's sources, as a planner writes them, and the two files that the program reads. Faults are told at their cell."""
+from __future__ import annotations
+
+import csv
+import io
+import json
+import os
+import re
+import tempfile
+from dataclasses import asdict, dataclass, field
+from typing import Any
+
+from ..library import port as port_script
+from ..library import tides as tides_script
+from .program import Program, Text
+from .reading import Fault, faults_of
+
+# The members of a ship that a sheet over a whole instance shows.
+MEMBERS = ["name", "direction", "class", "earliest", "latest", "tpc", "light", "deep", "tugs", "job", "may_stay"]
+MOST_TEXT = 4 << 20
+
+
+class NoDay(Exception):
+    """The files that were dropped are no day."""
+
+
+@dataclass
+class Told:
+    """A fault or a hint: `where` is ships, port, tide or day; a row of the sheet counts from 0."""
+    where: str
+    said: str
+    hint: bool = False
+    row: int | None = None
+    column: str | None = None
+
+
+@dataclass
+class Source:
+    """What a planner writes. `base` is the PORT.json of port.py, or a whole instance, whose ships the sheet then shows."""
+    whole: bool
+    base: str
+    columns: list[str]
+    rows: list[list[str]]
+    table: str | None = None
+    lists: list[dict[str, str]] = field(default_factory=list)
+    dates: str | None = None
+
+    def bytes(self) -> bytes:
+        return json.dumps(asdict(self), ensure_ascii=False).encode()
+
+
+@dataclass
+class Made:
+    instance: str | None
+    tides: str | None
+    told: list[Told]
+
+    @property
+    def good(self) -> bool:
+        return self.instance is not None and self.tides is not None and all(one.hint for one in self.told)
+
+
+def source_of(data: object) -> Source:
+    """A source from the bytes that the browser sent, or the store kept; `ValueError` for anything else."""
+    if not isinstance(data, dict):
+        raise ValueError("no source")
+
+    def text(value: object) -> str:
+        if not isinstance(value, str) or len(value) > MOST_TEXT:
+            raise ValueError("no text, or too long")
+        return value
+
+    try:
+        rows = [[text(cell) for cell in row] for row in data["rows"]]
+        columns = [text(cell) for cell in data["columns"]]
+        lists = [{name: text(one.get(name, "")) for name in ("waypoint", "text", "differences")} for one in data["lists"]]
+        dates = data.get("dates")
+        source = Source(bool(data["whole"]), text(data["base"]), columns, rows, None if data["table"] is None else text(data["table"]),
+                        lists, dates if dates in ("dmy", "mdy", "ymd") else None)
+    except (TypeError, KeyError, AttributeError) as cause:
+        raise ValueError(f"no source: {cause}") from None
+    if len(rows) > 200 or len(columns) > 60 or len(lists) > 16 or any(len(row) > 60 for row in rows):
+        raise ValueError("too many rows, columns or lists")
+    return source
+
+
+def cell_of(value: object) -> str:
+    return value if isinstance(value, str) else json.dumps(value)
+
+
+def sheet_of(instance: dict[str, Any]) -> tuple[list[str], list[list[str]]]:
+    """The sheet of a whole instance."""
+    ships = instance["ships"]
+    columns = [member for member in MEMBERS if any(member in ship for ship in ships)]
+    return columns, [[cell_of(ship.get(member, "")) for member in columns] for ship in ships]
+
+
+def classify(name: str, text: str) -> str:
+    """What a dropped file is."""
+    start = text.lstrip("\ufeff \r\n\t")
+    if start.startswith("{"):
+        try:
+            members = json.loads(start)
+        except (ValueError, RecursionError):
+            raise NoDay(f"{name} is no JSON") from None
+        return "instance" if "ships" in members else "port"
+    head = start.partition("\n")[0].lower()
+    if head.startswith(("slot,", "water,", '"slot"', '"water"')):
+        return "table"
+    if "direction" in head and "name" in head:
+        return "ships"
+    if re.search(r"[0-9]{1,2}:?[0-9]{2}\s+-?[0-9]+[.,][0-9]", start):
+        return "list"
+    raise NoDay(f"{name} is none of: ships (CSV with columns), a port or an instance (JSON), a tide table (CSV), printed waters")
+
+
+def dropped(files: list[tuple[str, str]]) -> Source:
+    """The source that some files make together."""
+    found: dict[str, tuple[str, str]] = {}
+    lists: list[tuple[str, str]] = []
+    for name, text in files:
+        kind = classify(name, text)
+        if kind == "list":
+            lists.append((name, text))
+        elif kind in found:
+            raise NoDay(f"{name} and {found[kind][0]} are both a file of this kind")
+        else:
+            found[kind] = (name, text)
+    if "instance" in found:
+        try:
+            columns, rows = sheet_of(json.loads(found["instance"][1]))
+        except (KeyError, TypeError, AttributeError):
+            raise NoDay(f"{found['instance'][0]} has no list of ships") from None
+        source = Source(True, found["instance"][1], columns, rows)
+    elif "port" in found and "ships" in found:
+        columns, *rows = port_script.cells_of(found["ships"][1].lstrip("\ufeff"))
+        source = Source(False, found["port"][1], columns, [row + [""] * (len(columns) - len(row)) for row in rows if any(row)])
+    else:
+        raise NoDay("an instance, or a port and a table of ships, is needed")
+    if "table" in found:
+        source.table = found["table"][1]
+    else:
+        source.lists = lists_of(source, lists)
+    return source
+
+
+def waypoints_of(source: Source) -> list[str]:
+    try:
+        return [cell_of(item["name"]) for item in json.loads(source.base)["waypoints"]]
+    except (ValueError, KeyError, TypeError, RecursionError):
+        return []
+
+
+def lists_of(source: Source, files: list[tuple[str, str]]) -> list[dict[str, str]]:
+    """Printed waters for each waypoint: the file that has its name, or else the next one."""
+    rest = list(files)
+    found = []
+    for waypoint in waypoints_of(source):
+        named = [one for one in rest if waypoint.lower() in one[0].lower()] or rest[:1]
+        if named:
+            rest.remove(named[0])
+        found.append({"waypoint": waypoint, "text": named[0][1] if named else "", "differences": ""})
+    return found
+
+
+def ships_text(source: Source) -> str:
+    out = io.StringIO(newline="")
+    csv.writer(out, lineterminator="\n").writerows([source.columns, *source.rows])
+    return out.getvalue()
+
+
+def number_or_text(cell: str) -> object:
+    """The value that a cell says: JSON where it is a number or a truth value; else a text, which the program refuses where it wants none."""
+    lowered = cell.strip().lower()
+    if re.fullmatch(r"-?[0-9]{1,18}", lowered):
+        return int(lowered)
+    return {"true": True, "yes": True, "false": False, "no": False}.get(lowered, cell.strip())
+
+
+def whole_instance(source: Source) -> str:
+    """A whole instance with the ships of the sheet. A ship keeps its route and channel by its row; a new one has those of the first ship
+    of its direction."""
+    base = json.loads(source.base)
+    old = base["ships"]
+    ships = []
+    for row, cells in enumerate(source.rows):
+        values = dict(zip(source.columns, cells))
+        like = [ship for ship in old if ship.get("direction") == values.get("direction")] or old
+        ship = dict(old[row] if row < len(old) else like[0])
+        for column, cell in values.items():
+            ship[column] = cell.strip() if column in ("name", "direction") else number_or_text(cell)
+        ships.append(ship)
+    return str(port_script.text_of({**base, "ships": ships})) + "\n"
+
+
+def instance_text(source: Source) -> tuple[str | None, list[Told]]:
+    """The instance of a source, or what its scripts refuse."""
+    if source.whole:
+        try:
+            return whole_instance(source), []
+        except (ValueError, KeyError, TypeError, IndexError, AttributeError, RecursionError) as cause:
+            return None, [Told("port", f"the instance can't be read: {cause}")]
+    try:
+        made = port_script.instance_of(("ships", ships_text(source)), ("port", source.base), source.dates)
+        return str(port_script.text_of(made)) + "\n", []
+    except tides_script.Refused as cause:
+        return None, [told_of(line) for line in str(cause).split("\n")]
+
+
+def told_of(line: str) -> Told:
+    """A refusal of port.py at its cell. Its rows count from 1, the header among them."""
+    found = re.fullmatch(r"ships, row ([0-9]+), column (.+?): (.*)", line)
+    if found:
+        row = int(found[1])
+        return Told("ships", found[3], False, row - 2 if row > 1 else None, found[2])
+    return Told("port" if line.startswith("port, ") else "day", line.partition(", ")[2] or line)
+
+
+def tides_text(source: Source, instance: str | None) -> tuple[str | None, list[Told]]:
+    """The tide table of a source: as it is, or of printed waters by tides.py."""
+    if source.table is not None:
+        return source.table, []
+    try:
+        base = json.loads(source.base)
+        start, minutes = str(base["start"]), str(base["slot_minutes"])
+        heights = json.loads(instance).get("heights") if instance else base.get("heights")
+    except (ValueError, KeyError, TypeError):
+        return None, [Told("tide", "printed waters need the port's start and slot_minutes")]
+    with tempfile.TemporaryDirectory() as folder:
+        words = (["--dates", source.dates] if source.dates else []) + (["--least"] if heights == "start" else []) + [start, minutes]
+        for number, one in enumerate(source.lists):
+            path = os.path.join(folder, f"waters {number}")
+            with open(path, "w", encoding="utf-8") as file:
+                file.write(one["text"])
+            words.append(f"{one['waypoint']}={path}{one['differences'].strip()}")
+        try:
+            return "\n".join(tides_script.lines_of(words)) + "\n", []
+        except (tides_script.Refused, UnicodeError) as cause:
+            said = re.sub(rf"{re.escape(folder)}/waters ([0-9]+)",
+                          lambda found: source.lists[int(found[1])]["waypoint"], f"{cause}")
+            return None, [Told("tide", said)]
+
+
+def placed(fault: Fault, source: Source) -> Told:
+    """A fault of the program at its cell: its ships count from 0, blank rows not among them."""
+    found = re.fullmatch(r"ships\.([0-9]+)(?:\.([a-z_]+))?.*", fault.place)
+    if found:
+        filled = [number for number, row in enumerate(source.rows) if any(cell.strip() for cell in row)]
+        ship = int(found[1])
+        column = found[2] if found[2] in source.columns else None
+        return Told("ships", fault.said, fault.hint, filled[ship] if ship < len(filled) else None, column)
+    if fault.place == "tides":
+        return Told("tide", fault.said, fault.hint)
+    return Told("port", fault.said, fault.hint)
+
+
+def make(source: Source, program: Program) -> Made:
+    """The two files of a source, and all that is told of them: by the scripts, and by the program's own `lint`."""
+    instance, told = instance_text(source)
+    tides, more = tides_text(source, instance)
+    told += more
+    if instance is None or tides is None:
+        return Made(instance, tides, told)
+    store = program.store
+    said = program.ask("lint", Text(store.put(instance.encode()), "day.json"), Text(store.put(tides.encode()), "tides.csv"))
+    told += [placed(fault, source) for fault in faults_of(said.output)]
+    return Made(instance, tides, told)

@@ -1,0 +1,249 @@
+"""Long runs: each in a folder of its own, in a row in the store, and shown as proved only after `verify` of what it left."""
+from __future__ import annotations
+
+import json
+import os
+import shutil
+import signal
+import sqlite3
+import subprocess
+import sys
+import tempfile
+import threading
+import time
+from concurrent.futures import ThreadPoolExecutor
+from dataclasses import dataclass
+
+from ..library import CHECKER
+from .program import Failed, Program, Text, Word
+from .progress import Follower, whole_lines
+from .reading import Flat, Unread, Verdict, flat_of, timetable_of, verdict_of
+from .store import Damaged, Store
+
+# How often a certificate is looked at, in seconds, and how long the second checker may take.
+BEAT = 0.1
+SECOND_PATIENCE = 600
+BUDGETS = range(1, 100001)
+# The state of a run that ended by itself, was stopped, or ended with the board.
+ENDED = ("done", "stopped", "interrupted", "failed")
+
+
+@dataclass(frozen=True)
+class Inputs:
+    """The bytes that a run is about: a port's, and the plan of a repair."""
+    instance: str
+    tides: str
+    plan: str | None = None
+
+    def words(self) -> list[Word]:
+        """The words after `port`."""
+        words: list[Word] = [Text(self.instance, "day.json"), Text(self.tides, "tides.csv")]
+        return words + [Text(self.plan, "plan.txt")] if self.plan else words
+
+    def form(self) -> list[str]:
+        return ["repair", "port"] if self.plan else ["port"]
+
+
+def inputs_of(run: sqlite3.Row) -> Inputs:
+    return Inputs(run["instance"], run["tides"], run["plan"])
+
+
+def flat_problem(program: Program, inputs: Inputs) -> Flat:
+    return flat_of(program.ask("flatten", *inputs.words()[:2]).output)
+
+
+def verify(program: Program, inputs: Inputs, cert: str, fresh: bool = False) -> Verdict:
+    """What `verify` says of these very bytes; `Unread` where it refuses them."""
+    return verdict_of(program.ask("verify", *inputs.form(), *inputs.words(), Text(cert, "cert"), fresh=fresh).output)
+
+
+def start_of(pid: int) -> str | None:
+    """When a process began, by the system's own clock: so a number that was given again is told from the old one."""
+    try:
+        with open(f"/proc/{pid}/stat", encoding="ascii", errors="replace") as file:
+            return file.read().rpartition(")")[2].split()[19]
+    except OSError:
+        return None
+
+
+class Runs:
+    """Begins, follows and ends runs; a few at once."""
+
+    def __init__(self, store: Store, program: Program, at_once: int = 2) -> None:
+        self.store, self.program = store, program
+        self.pool = ThreadPoolExecutor(at_once, "run")
+        # What-ifs have a queue of their own, so that no pin waits for them.
+        self.whatifs = ThreadPoolExecutor(at_once, "whatif")
+        self.seconds = ThreadPoolExecutor(1, "second")
+        self.followers: dict[int, Follower] = {}
+        self.asked: set[int] = set()
+        self.ending = False
+        self.lock = threading.Lock()
+        self._take_up()
+
+    def _take_up(self) -> None:
+        """What was under way when the board ended: what was written is kept and verified."""
+        for run in self.store.rows("SELECT * FROM run WHERE state IN ('waiting', 'running')"):
+            if run["pid"] and run["pid_start"] and start_of(run["pid"]) == run["pid_start"]:
+                os.kill(run["pid"], signal.SIGTERM)
+                while start_of(run["pid"]) == run["pid_start"]:
+                    time.sleep(0.05)
+            try:
+                self._close(run["id"], "interrupted", json.loads(run["series"]))
+            except (Failed, Unread, Damaged, OSError) as fault:
+                self._set(run["id"], state="failed", fault=f"{type(fault).__name__}: {fault}")
+        for run in self.store.rows("SELECT id FROM run WHERE verdict IS NOT NULL AND second IS NULL AND plan IS NULL"):
+            self.seconds.submit(self._second, run["id"])
+
+    def get(self, number: int) -> sqlite3.Row:
+        run = self.store.row("SELECT * FROM run WHERE id = ?", number)
+        if run is None:
+            raise KeyError(number)
+        return run
+
+    def begin(self, day: int, inputs: Inputs, kind: str, label: str, budget: int, input_id: int | None = None,
+              base: int | None = None, pins: dict[int, int] | None = None) -> int:
+        if budget not in BUDGETS:
+            raise ValueError(budget)
+        number = self.store.insert(
+            "INSERT INTO run(day, input, base, kind, label, instance, tides, plan, pins, budget, program, state)"
+            " VALUES (?, ?, ?, ?, ?, ?, ?, ?, ?, ?, ?, 'waiting')", day, input_id, base, kind, label, inputs.instance, inputs.tides,
+            inputs.plan, json.dumps(pins or {}), budget, self.program.digest)
+        (self.whatifs if kind == "whatif" else self.pool).submit(self._work, number)
+        return number
+
+    def words_of(self, run: sqlite3.Row) -> list[Word]:
+        """The words of a run: a plan with a base goes on from its certificate."""
+        inputs, budget = inputs_of(run), str(run["budget"])
+        if run["kind"] == "plan" and run["base"] is not None:
+            return ["resume", "port", *inputs.words(), Text(self.get(run["base"])["cert"], "start"), budget, "proof"]
+        return ["prove", *inputs.form(), *inputs.words(), budget, "proof"]
+
+    def _set(self, number: int, **values: object) -> None:
+        names = ", ".join(f"{name} = ?" for name in values)
+        with self.store.change() as db:
+            db.execute(f"UPDATE run SET {names} WHERE id = ?", (*values.values(), number))
+
+    def _work(self, number: int) -> None:
+        try:
+            self._search(number)
+        except (Failed, Unread, Damaged, OSError, ValueError) as fault:
+            self._set(number, state="failed", ended=time.time(), fault=f"{type(fault).__name__}: {fault}")
+        finally:
+            self.followers.pop(number, None)
+
+    def _search(self, number: int) -> None:
+        run = self.get(number)
+        inputs = inputs_of(run)
+        if number in self.asked or self.ending:
+            self._close(number, "stopped", [])
+            return
+        folder = tempfile.mkdtemp(prefix=f"run-{number}-", dir=self.store.folder)
+        flat = flat_problem(self.program, inputs)
+        follower = Follower(os.path.join(folder, "proof"), flat, len(flat.values) + 1 if inputs.plan else 1)
+        with self.lock:
+            process = self.program.start(self.words_of(run), folder)
+            self._set(number, state="running", folder=folder, pid=process.pid, pid_start=start_of(process.pid), began=time.time())
+            self.followers[number] = follower
+        while process.poll() is None:
+            if number in self.asked or self.ending:
+                process.terminate()
+            follower.look()
+            try:
+                process.wait(BEAT)
+            except subprocess.TimeoutExpired:
+                pass
+        follower.look()
+        stopped = process.returncode < 0 and (number in self.asked or self.ending)
+        if process.returncode < 0 and not stopped:
+            raise Failed(f"the run was ended by signal {-process.returncode}")
+        self._close(number, "stopped" if stopped else "done", [point.listed() for point in follower.points])
+
+    def _close(self, number: int, state: str, series: list[list[float | int | None]]) -> None:
+        """Keeps what a run left, and what `verify` says of it."""
+        run, cert, verdict, fault, report = self.get(number), None, None, None, None
+        folder = run["folder"]
+        if folder and os.path.isdir(folder):
+            proof = os.path.join(folder, "proof")
+            if os.path.exists(proof):
+                if state != "done":
+                    whole_lines(proof)
+                cert = self.store.put_file(proof)
+            with open(os.path.join(folder, "report"), "rb") as file:
+                report = self.store.put(file.read())
+        if cert is not None:
+            try:
+                said = verify(self.program, inputs_of(run), cert, True)
+                verdict = self.line_of(run, cert)
+                if state == "done" and not self.agree(said, self.store.get(report or "").decode()):
+                    fault, verdict = "the report of the run and what verify says of its certificate differ", None
+            except (Unread, Failed) as cause:
+                fault = f"{cause}"
+        elif state != "done":
+            fault = "nothing was written: a run that goes on writes its lines when it ends" if run["base"] else None
+        else:
+            fault = self.store.get(report or "").decode("utf-8", "replace").strip() or "no certificate was written"
+        self._set(number, state=state, cert=cert, verdict=verdict, fault=fault, report=report, series=json.dumps(series),
+                  ended=time.time(), pid=None, folder=None)
+        if folder:
+            shutil.rmtree(folder, ignore_errors=True)
+        if verdict and cert and not run["plan"] and not self.ending and state != "interrupted":
+            self.seconds.submit(self._second, number)
+
+    def line_of(self, run: sqlite3.Row, cert: str) -> str:
+        """The line of `verify` itself; it is kept with the answers, and read again for each page."""
+        inputs = inputs_of(run)
+        return self.program.ask("verify", *inputs.form(), *inputs.words(), Text(cert, "cert")).output.strip()
+
+    @staticmethod
+    def agree(said: Verdict, report: str) -> bool:
+        """Whether the head of a report claims no more than the certificate shows."""
+        head = report.partition("\n")[0].split(" ")
+        if head[0] == "optimal":
+            return said.word == "optimal" and verdict_of(f"optimal {head[1]}\n").cargo == said.cargo
+        if head[0] == "infeasible":
+            return said.word == "infeasible"
+        return head[0] in ("unfinished", "memory") and not said.closed
+
+    def _second(self, number: int) -> None:
+        """What the second checker says, which shares nothing with the program."""
+        run = self.get(number)
+        paths = [self.store.sound(run[name]) for name in ("instance", "tides", "cert")]
+        try:
+            done = subprocess.run([sys.executable, "-I", CHECKER, "port", *paths], capture_output=True, text=True,
+                                  timeout=SECOND_PATIENCE, check=False)
+            self._set(number, second=done.stdout.strip()[:200] or "no answer")
+        except subprocess.TimeoutExpired:
+            self._set(number, second=f"not within {SECOND_PATIENCE} seconds")
+
+    def stop(self, number: int) -> None:
+        """Ends a run; what it wrote is then verified as that of any other."""
+        self.asked.add(number)
+
+    def verdict(self, number: int, fresh: bool = False) -> Verdict | None:
+        """What `verify` says of the certificate that a run left, of the bytes that are kept; with `fresh` it is run now."""
+        run = self.get(number)
+        if run["cert"] is None or run["verdict"] is None:
+            return None
+        for name in (run["instance"], run["tides"], run["plan"], run["cert"]):
+            if name is not None:
+                self.store.sound(name)
+        return verify(self.program, inputs_of(run), run["cert"], fresh)
+
+    def timetable(self, number: int) -> list[int] | None:
+        run = self.get(number)
+        return timetable_of(self.store.get(run["cert"])) if run["cert"] else None
+
+    def wait(self, number: int, patience: float = 60) -> sqlite3.Row:
+        """For tests, and for scripts: until a run has ended."""
+        end = time.monotonic() + patience
+        while (run := self.get(number))["state"] not in ENDED and time.monotonic() < end:
+            time.sleep(0.02)
+        return run
+
+    def close(self) -> None:
+        """Ends all runs of this board, keeps what they wrote, and waits for that."""
+        self.ending = True
+        for pool in (self.pool, self.whatifs):
+            pool.shutdown(wait=True, cancel_futures=True)
+        self.seconds.shutdown(wait=True, cancel_futures=True)

@@ -1,0 +1,185 @@
+"""A plan: its picture with a layer over it, pins, what-ifs, and two plans beside each other."""
+from __future__ import annotations
+
+import json
+import sqlite3
+from typing import Any
+
+from flask import Blueprint, Response, abort, render_template
+
+from .day import day_of
+from ..core.facts import facts, port_of
+from ..core.pins import pinned, why_not
+from ..core.program import Text
+from ..core.runs import ENDED, Inputs, inputs_of
+from ..core.shown import cost, costs_words, picture_words, root_of, shown, table_of
+from ..core.variants import variants
+from .app import board, said, whole
+from ..core.wishes import wishes_of
+
+pages = Blueprint("plans", __name__)
+WHAT_IF_BUDGET = 20000
+
+
+def run_of(number: int) -> sqlite3.Row:
+    try:
+        return board().runs.get(number)
+    except KeyError:
+        abort(404)
+
+
+@pages.get("/day/<int:day>/plan/<int:number>")
+def plan_page(day: int, number: int) -> str:
+    run = run_of(number)
+    if run["day"] != day:
+        abort(404)
+    return render_template("plan.html", day=day_of(day), run=number, page="plan")
+
+
+@pages.get("/picture/<int:number>.svg")
+def picture(number: int) -> Response:
+    """The picture of a run's certificate, by `chart`, which checks it as `verify` does."""
+    run = run_of(number)
+    if run["cert"] is None:
+        abort(404)
+    drawn = board().program.ask(*picture_words(run))
+    if drawn.status > 2:
+        abort(404)
+    return Response(drawn.output, mimetype="image/svg+xml", headers={
+        "Content-Security-Policy": "default-src 'none'; style-src 'unsafe-inline'; frame-ancestors 'none'"})
+
+
+@pages.get("/picture/<int:number>/clash.svg")
+def clash_picture(number: int) -> Response:
+    """The day with the restrictions that clash in red, which `chart clash` draws where no ship is held and nothing has happened."""
+    run, here = run_of(number), board()
+    if run["clash"] is None or run["plan"] is not None:
+        abort(404)
+    found = json.loads(here.store.get(run["clash"]))
+    if not found["holds"]:
+        abort(404)
+    drawn = here.program.ask("chart", "clash", *inputs_of(run).form(), *inputs_of(run).words(), Text(found["clash"], "clash.txt"),
+                             Text(found["cert"], "cert"))
+    return Response(drawn.output, mimetype="image/svg+xml") if drawn.status < 3 else Response(status=404)
+
+
+@pages.get("/api/run/<int:number>/facts")
+def slots(number: int) -> Any:
+    run, here = run_of(number), board()
+    timetable = here.runs.timetable(number)
+    if timetable is None or here.runs.verdict(number) is None:
+        return {"ships": []}
+    root = root_of(here.runs, run)
+    wishes, withdrawn = wishes_of(here.store.get(root["plan"]).decode()) if root["plan"] else ([], 0)
+    return Response(facts(here.program, inputs_of(run), timetable, wishes, withdrawn), mimetype="application/json")
+
+
+@pages.post("/api/run/<int:number>/pin")
+def pin(number: int) -> Any:
+    """Proves the day again with these ships held; the wish is that all others stay where this plan has them."""
+    here, run, asked = board(), run_of(number), said()
+    timetable = here.runs.timetable(number)
+    port = port_of(here.program, run["instance"])
+    if run["state"] not in ENDED or timetable is None:
+        raise ValueError("only a plan with a timetable can be touched")
+    pins = {whole(int(ship), 0, len(port.ships) - 1): whole(slot, 0, port.slots) for ship, slot in dict(asked.get("pins", {})).items()}
+    root = root_of(here.runs, run)
+    if not pins:
+        return {"run": root["id"]}
+    text = pinned(timetable, pins, here.store.get(root["plan"]).decode() if root["plan"] else None)
+    label = ", ".join(f"{port.ships[ship]} at {port.clock(slot)}" for ship, slot in sorted(pins.items()))
+    # A touch of an infeasible answer begins from the plan before it.
+    inputs = Inputs(run["instance"], run["tides"], here.store.put(text.encode()))
+    again = here.store.row("SELECT id FROM run WHERE day = ? AND base = ? AND plan = ? AND instance = ? AND tides = ? AND program = ?"
+                           " AND state = 'done' AND kind = 'pin'", run["day"], number, inputs.plan, inputs.instance, inputs.tides,
+                           here.program.digest)
+    return {"run": again["id"] if again else here.runs.begin(run["day"], inputs, "pin", label, whole(asked.get("budget", 20000), 1, 100000),
+                                                             run["input"], number, pins)}
+
+
+@pages.post("/api/run/<int:number>/resume")
+def resume(number: int) -> Any:
+    """Goes on from an unfinished certificate with new lemmas."""
+    here, run = board(), run_of(number)
+    verdict = here.runs.verdict(number)
+    if verdict is None or verdict.closed or run["plan"] is not None:
+        raise ValueError("only an unfinished plan without pins can go on")
+    budget = whole(said().get("budget"), 1, 100000)
+    return {"run": here.runs.begin(run["day"], inputs_of(run), "plan", f"{run['label']}, gone on", budget, run["input"], number)}
+
+
+@pages.get("/api/run/<int:number>/why")
+def why(number: int) -> Any:
+    """Why nothing fits: the restrictions that clash, in the port's own words."""
+    here, run = board(), run_of(number)
+    said_now = here.runs.verdict(number)
+    if said_now is None or said_now.word != "infeasible":
+        return {"holds": False, "said": "something fits", "kept": []}
+    kept = here.store.row("SELECT clash FROM run WHERE id = ?", number)
+    if kept and kept["clash"]:
+        return json.loads(here.store.get(kept["clash"]))
+    answer = why_not(here.program, inputs_of(run), {int(ship): slot for ship, slot in json.loads(run["pins"]).items()})
+    with here.store.change() as db:
+        db.execute("UPDATE run SET clash = ? WHERE id = ?", (here.store.put(json.dumps(answer).encode()), number))
+    return answer
+
+
+@pages.post("/api/run/<int:number>/whatif")
+def whatif(number: int) -> Any:
+    """Plans variants of the day of this plan, each with its own proof."""
+    here, asked = board(), said()
+    run = root_of(here.runs, run_of(number))
+    instance = json.loads(here.store.get(run["instance"]))
+    closed = asked.get("closed")
+    if closed is not None:
+        closed = (whole(closed[0], 0, 511), whole(closed[1], 0, 511))
+    begun = []
+    for label, changed in variants(instance, closed, port_of(here.program, run["instance"]).clock):
+        inputs = Inputs(here.store.put(changed.encode()), run["tides"], run["plan"])
+        again = here.store.row("SELECT id FROM run WHERE kind = 'whatif' AND base = ? AND instance = ? AND program = ?", run["id"],
+                               inputs.instance, here.program.digest)
+        begun.append(again["id"] if again else here.runs.begin(run["day"], inputs, "whatif", label, WHAT_IF_BUDGET, None, run["id"]))
+    return {"runs": begun}
+
+
+@pages.get("/api/run/<int:number>/whatifs")
+def whatifs(number: int) -> Any:
+    here = board()
+    root = root_of(here.runs, run_of(number))
+    base, rows = here.runs.verdict(root["id"]), []
+    for run in here.store.rows("SELECT * FROM run WHERE base = ? AND kind = 'whatif' ORDER BY id", root["id"]):
+        verdict = here.runs.verdict(run["id"])
+        rows.append({"label": run["label"], "ended": run["state"] in ENDED, "word": verdict.word if verdict else run["fault"] or "",
+                     "difference": costs_words(cost(base, verdict)) if verdict else "", "run": run["id"],
+                     "tenths": verdict.cargo - base.cargo if verdict and base and verdict.cargo is not None and base.cargo is not None
+                     and verdict.word == base.word == "optimal" else None,
+                     "proved": here.program.proved and bool(verdict and verdict.closed and base and base.closed)})
+    return {"rows": rows}
+
+
+@pages.get("/api/day/<int:number>/answers")
+def answers(number: int) -> Any:
+    """The plans and pins of a day, the latest first."""
+    here, rows = board(), []
+    for run in here.store.rows("SELECT id FROM run WHERE day = ? AND kind IN ('plan', 'pin', 'repair') ORDER BY id DESC LIMIT 40", number):
+        one = shown(here.runs, run["id"])
+        rows.append({name: one[name] for name in ("id", "kind", "label", "headline", "difference", "ended", "word", "base", "proved")})
+    return {"rows": rows}
+
+
+@pages.get("/day/<int:day>/compare/<int:one>/<int:other>")
+def compare(day: int, one: int, other: int) -> str:
+    here, rows = board(), []
+    runs = [run_of(one), run_of(other)]
+    if any(run["day"] != day for run in runs):
+        abort(404)
+    port = port_of(here.program, runs[0]["instance"])
+    tables = [{row["ship"]: row for row in table_of(here.runs, run)} for run in runs]
+    for ship, name in enumerate(port.ships):
+        cells = [table.get(str(ship), {}) for table in tables]
+        slots = [cell.get("slot", "") for cell in cells]
+        rows.append({"name": name, "slots": slots, "clocks": [port.clock(int(slot)) if slot else "stays" for slot in slots],
+                     "cargo": [cell.get("cargo t", "") for cell in cells], "moved": slots[0] != slots[1],
+                     "drafts": [cell.get("draft cm", "") for cell in cells]})
+    return render_template("compare.html", day=day_of(day), rows=rows, runs=[shown(here.runs, run["id"]) for run in runs], page="plan")
+
