@@ -7,7 +7,7 @@ import json
 import sqlite3
 from typing import Any
 
-from .facts import Port, port_of
+from .facts import Port, clocked, port_of
 from ..library import whatif
 from .program import Failed, Text, Word
 from .reading import Unread, Verdict, tonnes
@@ -102,6 +102,13 @@ def table_of(runs: Runs, run: sqlite3.Row) -> list[dict[str, str]]:
     return list(csv.DictReader(io.StringIO(said.output, newline=""))) if said.status < 3 else []
 
 
+def by_the_clock(rows: list[dict[str, str]], port: Port) -> list[dict[str, str]]:
+    """The records of `table` for a page: times are the port's clock, also where the day has no start."""
+    names = list(rows[0]) if rows else []
+    times = {"time", *names[names.index("cargo t") + 1:]} if names else set()
+    return [clocked(row, port, times) for row in rows]
+
+
 def picture_words(run: sqlite3.Row) -> list[Word]:
     inputs = inputs_of(run)
     return ["chart", *inputs.form(), *inputs.words(), Text(run["cert"], "cert")]
@@ -155,5 +162,5 @@ def shown(runs: Runs, number: int) -> dict[str, Any]:
         "now": follower.now().listed() if follower else None,
         "seconds": round(run["ended"] - run["began"], 2) if run["ended"] and run["began"] else None,
         "timetable": runs.timetable(number) if said and said.cargo is not None else None,
-        "table": table_of(runs, run) if said else [], "moves": moves_of(runs, run, port) if said and said.cargo is not None else [],
+        "table": by_the_clock(table_of(runs, run), port) if said else [], "moves": moves_of(runs, run, port) if said and said.cargo is not None else [],
     }
