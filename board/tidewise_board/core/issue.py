@@ -48,7 +48,7 @@ def sailings(port: Port, instance: bytes, table: list[dict[str, str]]) -> list[S
     for row in table:
         ship = ships[int(row["ship"])]
         slot = int(row["slot"]) if row["slot"] else None
-        passes = [(name, port.clock_of(int(row[name]))) for name in port.waypoints if slot is not None and row.get(name)]
+        passes = [(name, port.clock_at(int(row[name]))) for name in port.waypoints if slot is not None and row.get(name)]
         found.append(Sailing(plain(row["name"]), SENSE.get(row["direction"], row["direction"]), slot, "stays" if slot is None else port.clock(slot),
                              sorted(passes, key=lambda one: int(row[one[0]])), depth(row), metres(row.get("under keel cm", "")),
                              plain(row.get("limiting waypoint", "")), int(ship["tugs"]), span(int(ship["job"]) * port.minutes),

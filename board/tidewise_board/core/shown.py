@@ -8,7 +8,7 @@ import sqlite3
 from typing import Any
 
 from .audited import Audited
-from .facts import Port, port_of
+from .facts import Port, clocked, port_of
 from ..library import whatif
 from .program import Failed, Program, Text, Word
 from .reading import Unread, Verdict, tonnes
@@ -131,6 +131,13 @@ def table_of(runs: Runs, run: sqlite3.Row) -> list[dict[str, str]]:
     return list(csv.DictReader(io.StringIO(said.output, newline=""))) if said.status < 3 else []
 
 
+def by_the_clock(rows: list[dict[str, str]], port: Port) -> list[dict[str, str]]:
+    """The records of `table` for a page: times are the port's clock, also where the day has no start."""
+    names = list(rows[0]) if rows else []
+    times = {"time", *names[names.index("cargo t") + 1:]} if names else set()
+    return [clocked(row, port, times) for row in rows]
+
+
 def picture_words(run: sqlite3.Row) -> list[Word]:
     inputs = inputs_of(run)
     return ["chart", *inputs.form(), *inputs.words(), Text(run["cert"], "cert")]
@@ -184,5 +191,5 @@ def shown(runs: Runs, number: int) -> dict[str, Any]:
         "now": follower.now().listed() if follower else None,
         "seconds": round(run["ended"] - run["began"], 2) if run["ended"] and run["began"] else None,
         "timetable": runs.timetable(number) if said and said.cargo is not None else None,
-        "table": table_of(runs, run) if said else [], "moves": moves_of(runs, run, port) if said and said.cargo is not None else [],
+        "table": by_the_clock(table_of(runs, run), port) if said else [], "moves": moves_of(runs, run, port) if said and said.cargo is not None else [],
     }
