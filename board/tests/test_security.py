@@ -267,7 +267,7 @@ def test_two_boards_on_one_folder(tmp_path: object) -> None:
     folder = os.path.join(str(tmp_path), "data")
     first = Served(8471, data=folder)
     try:
-        words = [sys.executable, "-m", "tidewise_board", "--port", "8472", "--data", folder, "--program", PROGRAM]
+        words = [sys.executable, "-m", "tidewise_board.web.serve", "--port", "8472", "--data", folder, "--program", PROGRAM]
         second = subprocess.run(words, cwd=ROOT, capture_output=True, text=True, timeout=60, check=False)
         assert second.returncode != 0 and "is that of a board that runs" in second.stderr
         assert first.process.poll() is None

@@ -23,6 +23,8 @@ MEANINGS = {
 }
 
 
+# What is said where the operator has named no program.
+NONE_NAMED = "no program is named: every answer says that it comes from an unproved build"
 # The second checker's line is one of its own if it begins so.
 SILENT = ("not within", "no answer")
 
