@@ -26,17 +26,20 @@ class NoDay(Exception):
 
 @dataclass
 class Told:
-    """A fault or a hint: `where` is ships, port, tide or day; a row of the sheet counts from 0."""
+    """A fault or a hint: `where` is ships, port, tide or day; a row of the sheet counts from 0; `place` is that in the JSON, as
+    waypoints.1.depth."""
     where: str
     said: str
     hint: bool = False
     row: int | None = None
     column: str | None = None
+    place: str | None = None
 
 
 @dataclass
 class Source:
-    """What a planner writes. `base` is the PORT.json of port.py, or a whole instance, whose ships the sheet then shows."""
+    """What a planner writes. `base` is the PORT.json of port.py, or a whole instance, whose ships the sheet then shows. `origins` has for
+    each row the place of its ship in that instance, -1 of a new one; without it each row has its own place."""
     whole: bool
     base: str
     columns: list[str]
@@ -44,6 +47,7 @@ class Source:
     table: str | None = None
     lists: list[dict[str, str]] = field(default_factory=list)
     dates: str | None = None
+    origins: list[int] | None = None
 
     def bytes(self) -> bytes:
         return json.dumps(asdict(self), ensure_ascii=False).encode()
@@ -74,9 +78,11 @@ def source_of(data: object) -> Source:
         rows = [[text(cell) for cell in row] for row in data["rows"]]
         columns = [text(cell) for cell in data["columns"]]
         lists = [{name: text(one.get(name, "")) for name in ("waypoint", "text", "differences")} for one in data["lists"]]
-        dates = data.get("dates")
+        dates, origins = data.get("dates"), data.get("origins")
+        if origins is not None and (len(origins) != len(rows) or not all(type(one) is int for one in origins)):
+            raise ValueError("origins aren't one for each row")
         source = Source(bool(data["whole"]), text(data["base"]), columns, rows, None if data["table"] is None else text(data["table"]),
-                        lists, dates if dates in ("dmy", "mdy", "ymd") else None)
+                        lists, dates if dates in ("dmy", "mdy", "ymd") else None, origins)
     except (TypeError, KeyError, AttributeError) as cause:
         raise ValueError(f"no source: {cause}") from None
     if len(rows) > 200 or len(columns) > 60 or len(lists) > 16 or any(len(row) > 60 for row in rows):
@@ -178,19 +184,35 @@ def number_or_text(cell: str) -> object:
 
 
 def whole_instance(source: Source) -> str:
-    """A whole instance with the ships of the sheet. A ship keeps its route and channel by its row; a new one has those of the first ship
-    of its direction."""
+    """A whole instance with the ships of the sheet. A ship keeps its route and channel, and its pairs with other ships; a new one has
+    the route of the first ship of its direction, and no pair. Pairs of a ship that was removed go with it."""
     base = json.loads(source.base)
     old = base["ships"]
+    origins = source.origins if source.origins is not None else list(range(len(source.rows)))
+    origins = [origin if 0 <= origin < len(old) else -1 for origin in origins]
     ships = []
-    for row, cells in enumerate(source.rows):
+    for origin, cells in zip(origins, source.rows, strict=True):
         values = dict(zip(source.columns, cells))
         like = [ship for ship in old if ship.get("direction") == values.get("direction")] or old
-        ship = dict(old[row] if row < len(old) else like[0])
+        ship = dict(old[origin] if origin >= 0 else like[0])
         for column, cell in values.items():
             ship[column] = cell.strip() if column in ("name", "direction") else number_or_text(cell)
         ships.append(ship)
-    return str(port_script.text_of({**base, "ships": ships})) + "\n"
+    paired = {member: _renumbered(base[member], origins, len(old)) for member in ("berths", "after") if member in base}
+    return str(port_script.text_of({**base, "ships": ships, **paired})) + "\n"
+
+
+def _renumbered(pairs: Any, origins: list[int], many: int) -> Any:
+    """Pairs of ships by their new places. One that names no ship of the old instance stays, so that the program refuses it."""
+    place = {origin: new for new, origin in enumerate(origins) if origin >= 0}
+    if not isinstance(pairs, list) or place == {new: new for new in range(many)}:
+        return pairs
+    found = []
+    for pair in pairs:
+        named = [name for name in ("outgoing", "incoming", "first", "second") if type(pair.get(name)) is int and 0 <= pair[name] < many]
+        if all(pair[name] in place for name in named):
+            found.append({**pair, **{name: place[pair[name]] for name in named}})
+    return found
 
 
 def instance_text(source: Source) -> tuple[str | None, list[Told]]:
@@ -213,7 +235,11 @@ def told_of(line: str) -> Told:
     if found:
         row = int(found[1])
         return Told("ships", found[3], False, row - 2 if row > 1 else None, found[2])
-    return Told("port" if line.startswith("port, ") else "day", line.partition(", ")[2] or line)
+    said = line.partition(", ")[2] or line
+    if not line.startswith("port, "):
+        return Told("day", said)
+    place = re.match(r"[a-z_]+(?:\.[a-z0-9_]+)*(?=: )", said)
+    return Told("port", said, place=place[0] if place else None)
 
 
 def tides_text(source: Source, instance: str | None) -> tuple[str | None, list[Told]]:
@@ -251,7 +277,7 @@ def placed(fault: Fault, source: Source) -> Told:
         return Told("ships", fault.said, fault.hint, filled[ship] if ship < len(filled) else None, column)
     if fault.place == "tides":
         return Told("tide", fault.said, fault.hint)
-    return Told("port", fault.said, fault.hint)
+    return Told("port", fault.said, fault.hint, place=fault.place)
 
 
 def make(source: Source, program: Program) -> Made:

@@ -74,9 +74,13 @@ class Runs:
         self.pool = ThreadPoolExecutor(at_once, "run")
         # What-ifs have a queue of their own, so that no pin waits for them.
         self.whatifs = ThreadPoolExecutor(at_once, "whatif")
+        # The further searches of a race: as many as there are processors, since only idle ones are taken.
+        self.racers = ThreadPoolExecutor(os.cpu_count() or 2, "racer")
         self.seconds = ThreadPoolExecutor(1, "second")
         self.followers: dict[int, Follower] = {}
         self.asked: set[int] = set()
+        # The first runs of the races that are under way.
+        self.races: set[int] = set()
         self.ending = False
         self.lock = threading.Lock()
         self._take_up()
@@ -112,12 +116,22 @@ class Runs:
         (self.whatifs if kind == "whatif" else self.pool).submit(self._work, number)
         return number
 
+    def begin_seeded(self, first: sqlite3.Row, seed: int) -> int:
+        """Begins the search of a run again by another seed, as one of its race."""
+        number = self.store.insert(
+            "INSERT INTO run(day, input, kind, label, instance, tides, budget, program, state, seed, race)"
+            " VALUES (?, ?, 'race', ?, ?, ?, ?, ?, 'waiting', ?, ?)", first["day"], first["input"], f"{first['label']}, seed {seed}",
+            first["instance"], first["tides"], first["budget"], first["program"], seed, first["id"])
+        self.racers.submit(self._work, number)
+        return number
+
     def words_of(self, run: sqlite3.Row) -> list[Word]:
         """The words of a run: a plan with a base goes on from its certificate."""
         inputs, budget = inputs_of(run), str(run["budget"])
         if run["kind"] == "plan" and run["base"] is not None:
             return ["resume", "port", *inputs.words(), Text(self.get(run["base"])["cert"], "start"), budget, "proof"]
-        return ["prove", *inputs.form(), *inputs.words(), budget, "proof"]
+        seed = [str(run["seed"])] if run["seed"] is not None else []
+        return ["prove", *inputs.form(), *inputs.words(), budget, "proof", *seed]
 
     def _set(self, number: int, **values: object) -> None:
         names = ", ".join(f"{name} = ?" for name in values)
@@ -244,6 +258,6 @@ class Runs:
     def close(self) -> None:
         """Ends all runs of this board, keeps what they wrote, and waits for that."""
         self.ending = True
-        for pool in (self.pool, self.whatifs):
+        for pool in (self.pool, self.whatifs, self.racers):
             pool.shutdown(wait=True, cancel_futures=True)
         self.seconds.shutdown(wait=True, cancel_futures=True)

@@ -9,7 +9,7 @@ from typing import Any
 
 from .facts import Port, port_of
 from ..library import whatif
-from .program import Failed, Text, Word
+from .program import Failed, Program, Text, Word
 from .reading import Unread, Verdict, tonnes
 from .runs import ENDED, Runs, inputs_of
 from .store import Damaged
@@ -22,8 +22,21 @@ MEANINGS = {
 }
 
 
+# What is said where the operator has named no program.
+NONE_NAMED = "no program is named: every answer says that it comes from an unproved build"
 # The second checker's line is one of its own if it begins so.
 SILENT = ("not within", "no answer")
+
+
+def build_words(program: Program) -> str:
+    """Which program answers here: its version, and whether its operator named these very bytes as proved."""
+    return f"{program.version}, {'proved' if program.proved else 'an unproved build'}"
+
+
+def warning_words(program: Program) -> str:
+    """What stands on each page of a program that nobody named."""
+    return (f"The board calls nothing proved: this program’s SHA-256, {program.digest[:12]}…, isn’t one that you named as that of a"
+            " proved program.")
 
 
 def headline(said: Verdict, proved: bool) -> str:
@@ -73,6 +86,18 @@ def costs_words(difference: str) -> str:
         return "costs nothing"
     number = f"{float(difference[1:]):,.1f} t"
     return f"costs {number}" if difference[0] == "-" else f"wins {number}"
+
+
+def worth(base: Verdict | None, said: Verdict | None, proved: bool) -> str:
+    """What one verdict has more than the other, in words; they say that it is proved where a proved program closed both."""
+    words = costs_words(cost(base, said))
+    closed = base is not None and said is not None and base.closed and said.closed
+    return f"{words}, proved" if words and proved and closed else words
+
+
+def seal(proved: bool, *said: Verdict | None) -> str:
+    """The mark of an answer that rests on these verdicts: none unless a proved program closed all of them."""
+    return "proved" if proved and all(one is not None and one.closed for one in said) else ""
 
 
 def outdated(runs: Runs, run: sqlite3.Row) -> bool:
@@ -127,18 +152,18 @@ def shown(runs: Runs, number: int) -> dict[str, Any]:
         said, fault = None, f"verify says {line}, but the second checker {second}"
     root = root_of(runs, run)
     base = runs.verdict(root["id"]) if root["id"] != number else None
-    difference = cost(base, said) if root["id"] != number else ""
+    difference = worth(base, said, runs.program.proved) if root["id"] != number else ""
     proved = runs.program.proved and said is not None and said.closed
     follower = runs.followers.get(number)
     return {
         "id": number, "day": run["day"], "kind": run["kind"], "label": run["label"], "state": run["state"],
         "ended": run["state"] in ENDED, "fault": fault, "verdict": line,
-        "headline": headline(said, runs.program.proved) if said else "No plan", "proved": proved,
+        "headline": headline(said, runs.program.proved) if said else "No plan", "proved": proved, "seal": seal(runs.program.proved, said),
         "word": said.word if said else "", "meaning": meaning(said, pins, run["plan"] is not None) if said else "",
         "cargo": said.cargo if said else None, "bound": said.bound if said else None,
         "second": second, "second_agrees": line is not None and second == line,
         "pins": {int(ship): slot for ship, slot in pins.items()}, "root": root["id"], "base": run["base"],
-        "difference": costs_words(difference), "outdated": outdated(runs, run), "cert": run["cert"], "budget": run["budget"],
+        "difference": difference, "outdated": outdated(runs, run), "cert": run["cert"], "budget": run["budget"],
         "points": [point.listed() for point in follower.points] if follower else json.loads(run["series"]),
         "now": follower.now().listed() if follower else None,
         "seconds": round(run["ended"] - run["began"], 2) if run["ended"] and run["began"] else None,

@@ -8,9 +8,11 @@ from typing import Any, cast
 from flask import Flask, abort, current_app, request
 
 from .guard import guard, token_of
+from ..core import race
 from ..core.program import Failed, Program
 from ..core.reading import Unread, tonnes
 from ..core.runs import Runs
+from ..core.shown import build_words, warning_words
 from ..core.store import Damaged, Store
 
 
@@ -41,19 +43,21 @@ def whole(value: object, low: int, high: int) -> int:
 
 
 def create(store: Store, program: Program, runs: Runs, key: str, port: int) -> Flask:
-    from . import audit, day, owner, plan, publish, underway
+    from . import audit, berths, compare, day, names, owner, plan, publish, underway, windows
+    race.take_up(runs)
     app = Flask(__name__)
     app.extensions["board"] = Board(store, program, runs)
     app.json.sort_keys = False  # type: ignore[attr-defined]
     app.jinja_env.trim_blocks = app.jinja_env.lstrip_blocks = True
     app.jinja_env.filters["tonnes"] = tonnes
     guard(app, key, port)
-    for part in (day, plan, underway, publish, audit, owner):
+    for part in (day, plan, berths, windows, compare, underway, publish, audit, owner, names):
         app.register_blueprint(part.pages)
 
     @app.context_processor
     def everywhere() -> dict[str, Any]:
-        return {"token": token_of(key), "program": program}
+        return {"token": token_of(key), "program": program, "who": names.told(), "build": build_words(program),
+                "warning": warning_words(program)}
 
     @app.errorhandler(Failed)
     @app.errorhandler(Unread)

@@ -7,6 +7,7 @@ from typing import Any
 
 from flask import Blueprint, Response, abort, redirect, render_template, request
 
+from ..core import race
 from ..core.days import MOST_TEXT, Made, NoDay, Source, Told, dropped, make, source_of, waypoints_of
 from ..core.program import Text
 from ..core.reading import windows_of
@@ -126,9 +127,9 @@ def draft(number: int) -> Any:
 
 @pages.post("/api/day/<int:number>/plan")
 def plan(number: int) -> Any:
-    """Freezes the inputs, and begins a run."""
-    day, here = day_of(number), board()
-    budget = whole(said().get("budget"), 1, 100000)
+    """Freezes the inputs, and begins a run; with `race` one on each idle processor, if the first doesn't end soon."""
+    day, here, asked = day_of(number), board(), said()
+    budget = whole(asked.get("budget"), 1, 100000)
     made = make(source(day), here.program)
     if not made.good:
         return {"error": "the day has faults", "told": [asdict(one) for one in made.told]}, 409
@@ -137,7 +138,10 @@ def plan(number: int) -> Any:
         db.execute("INSERT OR IGNORE INTO input(day, source, instance, tides) VALUES (?, ?, ?, ?)", (number, day["draft"], instance, tides))
     row = here.store.row("SELECT id FROM input WHERE day = ? AND source = ? AND instance = ? AND tides = ?", number, day["draft"],
                          instance, tides)
-    return {"run": here.runs.begin(number, Inputs(instance, tides), "plan", day["name"], budget, row["id"] if row else None)}
+    inputs, frozen = Inputs(instance, tides), row["id"] if row else None
+    if asked.get("race") is True:
+        return {"run": race.begin(here.runs, number, inputs, day["name"], budget, frozen)}
+    return {"run": here.runs.begin(number, inputs, "plan", day["name"], budget, frozen)}
 
 
 @pages.get("/api/run/<int:number>")
@@ -147,17 +151,20 @@ def run(number: int) -> Any:
 
 @pages.get("/api/run/<int:number>/progress")
 def progress(number: int) -> Any:
-    """What a run has written so far, from a point on: light enough to be asked for ten times a second."""
+    """What a run has written so far, from a point on: light enough to be asked for ten times a second. Of a race `now` has the greatest
+    cargo and the least bound of its searches, and `run` is the one that stands at its end."""
     here = board()
     run, follower = here.runs.get(number), here.runs.followers.get(number)
     points = [point.listed() for point in follower.points] if follower else json.loads(run["series"])
-    return {"state": run["state"], "ended": run["state"] not in ("waiting", "running"), "points": points,
-            "now": follower.now().listed() if follower else None}
+    ended = run["state"] not in ("waiting", "running") and number not in here.runs.races
+    at_work = [one for one in race.members(here.runs, number) if one in here.runs.followers] if not ended else []
+    return {"state": run["state"], "ended": ended, "points": points, "searches": len(at_work),
+            "run": race.winner(here.runs, number) if ended else number, "now": race.now(here.runs, at_work)}
 
 
 @pages.post("/api/run/<int:number>/stop")
 def stop(number: int) -> Any:
-    board().runs.stop(number)
+    race.stop(board().runs, number)
     return {}
 
 

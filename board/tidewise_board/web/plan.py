@@ -9,10 +9,10 @@ from flask import Blueprint, Response, abort, render_template
 
 from .day import day_of
 from ..core.facts import facts, port_of
-from ..core.pins import pinned, why_not
+from ..core.pins import bare_of, pinned, why_not
 from ..core.program import Text
 from ..core.runs import ENDED, Inputs, inputs_of
-from ..core.shown import cost, costs_words, picture_words, root_of, shown, table_of
+from ..core.shown import picture_words, root_of, seal, shown, worth
 from ..core.variants import variants
 from .app import board, said, whole
 from ..core.wishes import wishes_of
@@ -70,7 +70,8 @@ def slots(number: int) -> Any:
     if timetable is None or here.runs.verdict(number) is None:
         return {"ships": []}
     root = root_of(here.runs, run)
-    wishes, withdrawn = wishes_of(here.store.get(root["plan"]).decode()) if root["plan"] else ([], 0)
+    bare = bare_of(here.store, root)
+    wishes, withdrawn = wishes_of(bare) if bare else ([], 0)
     return Response(facts(here.program, inputs_of(run), timetable, wishes, withdrawn), mimetype="application/json")
 
 
@@ -84,10 +85,10 @@ def pin(number: int) -> Any:
         raise ValueError("only a plan with a timetable can be touched")
     pins = {whole(int(ship), 0, len(port.ships) - 1): whole(slot, 0, port.slots) for ship, slot in dict(asked.get("pins", {})).items()}
     root = root_of(here.runs, run)
-    if not pins:
+    if not pins and root["pins"] == "{}":
         return {"run": root["id"]}
-    text = pinned(timetable, pins, here.store.get(root["plan"]).decode() if root["plan"] else None)
-    label = ", ".join(f"{port.ships[ship]} at {port.clock(slot)}" for ship, slot in sorted(pins.items()))
+    text = pinned(timetable, pins, bare_of(here.store, root))
+    label = ", ".join(f"{port.ships[ship]} at {port.clock(slot)}" for ship, slot in sorted(pins.items())) or "no ship held"
     # A touch of an infeasible answer begins from the plan before it.
     inputs = Inputs(run["instance"], run["tides"], here.store.put(text.encode()))
     again = here.store.row("SELECT id FROM run WHERE day = ? AND base = ? AND plan = ? AND instance = ? AND tides = ? AND program = ?"
@@ -99,13 +100,17 @@ def pin(number: int) -> Any:
 
 @pages.post("/api/run/<int:number>/resume")
 def resume(number: int) -> Any:
-    """Goes on from an unfinished certificate with new lemmas."""
+    """Goes on with an unfinished answer: from its certificate, or, where ships are held or something has happened, from the beginning
+    with a greater budget, since the program takes up no repair."""
     here, run = board(), run_of(number)
     verdict = here.runs.verdict(number)
-    if verdict is None or verdict.closed or run["plan"] is not None:
-        raise ValueError("only an unfinished plan without pins can go on")
+    if verdict is None or verdict.closed or run["kind"] not in ("plan", "pin", "repair"):
+        raise ValueError("only an unfinished plan, pin or repair can go on")
     budget = whole(said().get("budget"), 1, 100000)
-    return {"run": here.runs.begin(run["day"], inputs_of(run), "plan", f"{run['label']}, gone on", budget, run["input"], number)}
+    if run["plan"] is None:
+        return {"run": here.runs.begin(run["day"], inputs_of(run), "plan", f"{run['label']}, gone on", budget, run["input"], number)}
+    pins = {int(ship): slot for ship, slot in json.loads(run["pins"]).items()}
+    return {"run": here.runs.begin(run["day"], inputs_of(run), run["kind"], run["label"], budget, run["input"], run["base"], pins)}
 
 
 @pages.get("/api/run/<int:number>/why")
@@ -150,10 +155,10 @@ def whatifs(number: int) -> Any:
     for run in here.store.rows("SELECT * FROM run WHERE base = ? AND kind = 'whatif' ORDER BY id", root["id"]):
         verdict = here.runs.verdict(run["id"])
         rows.append({"label": run["label"], "ended": run["state"] in ENDED, "word": verdict.word if verdict else run["fault"] or "",
-                     "difference": costs_words(cost(base, verdict)) if verdict else "", "run": run["id"],
+                     "difference": worth(base, verdict, here.program.proved), "run": run["id"],
                      "tenths": verdict.cargo - base.cargo if verdict and base and verdict.cargo is not None and base.cargo is not None
                      and verdict.word == base.word == "optimal" else None,
-                     "proved": here.program.proved and bool(verdict and verdict.closed and base and base.closed)})
+                     "seal": seal(here.program.proved, base, verdict), "base": root["id"], "cert": run["cert"]})
     return {"rows": rows}
 
 
@@ -163,23 +168,5 @@ def answers(number: int) -> Any:
     here, rows = board(), []
     for run in here.store.rows("SELECT id FROM run WHERE day = ? AND kind IN ('plan', 'pin', 'repair') ORDER BY id DESC LIMIT 40", number):
         one = shown(here.runs, run["id"])
-        rows.append({name: one[name] for name in ("id", "kind", "label", "headline", "difference", "ended", "word", "base", "proved")})
+        rows.append({name: one[name] for name in ("id", "kind", "label", "headline", "difference", "ended", "word", "base", "seal")})
     return {"rows": rows}
-
-
-@pages.get("/day/<int:day>/compare/<int:one>/<int:other>")
-def compare(day: int, one: int, other: int) -> str:
-    here, rows = board(), []
-    runs = [run_of(one), run_of(other)]
-    if any(run["day"] != day for run in runs):
-        abort(404)
-    port = port_of(here.program, runs[0]["instance"])
-    tables = [{row["ship"]: row for row in table_of(here.runs, run)} for run in runs]
-    for ship, name in enumerate(port.ships):
-        cells = [table.get(str(ship), {}) for table in tables]
-        slots = [cell.get("slot", "") for cell in cells]
-        rows.append({"name": name, "slots": slots, "clocks": [port.clock(int(slot)) if slot else "stays" for slot in slots],
-                     "cargo": [cell.get("cargo t", "") for cell in cells], "moved": slots[0] != slots[1],
-                     "drafts": [cell.get("draft cm", "") for cell in cells]})
-    return render_template("compare.html", day=day_of(day), rows=rows, runs=[shown(here.runs, run["id"]) for run in runs], page="plan")
-
