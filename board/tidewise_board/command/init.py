@@ -3,39 +3,34 @@ from __future__ import annotations
 
 import os
 import shutil
-import sys
 
 import click
 
-from ..library.faults import printable
-from .asked import BAD_INPUT, printed
+from ..library.faults import Refused
+from .common import say
 
 PORTS = os.path.join(os.path.dirname(os.path.abspath(__file__)), "..", "library", "ports")
 KINDS = ["start", "calls"]
 
 
 @click.command("init")
-@click.argument("path", metavar="FOLDER")
+@click.argument("folder", type=click.Path())
 @click.option("--from", "kind", type=click.Choice(KINDS), default="start", show_default=True,
               help="start: a port whose every number is explained in place; calls: the example with calls and closed hours.")
-def command(path: str, kind: str) -> None:
+def command(folder: str, kind: str) -> int:
     """Makes a port's folder to begin with: port.json, ships.csv and tides/. Nothing is ever written over.
 
-    The status is 0, or 4 where the folder is there already and isn't empty.
+    The status is 4 where the folder is there already and isn't empty.
 
     \b
-    Example:
-      tw init east-port && tw check east-port && tw plan east-port
+    Example: tw init east-port && tw check east-port && tw plan east-port
     """
-    try:
-        if os.path.exists(path) and os.listdir(path):
-            click.echo(printable(f"{path} is there already, and isn't empty"), err=True)
-            sys.exit(BAD_INPUT)
-        made = copied(os.path.join(PORTS, kind), path)
-    except OSError as fault:
-        click.echo(printable(f"{fault.filename}: {fault.strerror}"), err=True)
-        sys.exit(BAD_INPUT)
-    printed([*made, "Change them to your port's, and ask `tw check` what is wrong."])
+    if os.path.exists(folder) and os.listdir(folder):
+        raise Refused(f"{folder} is there already, and isn't empty")
+    for path in copied(os.path.join(PORTS, kind), folder):
+        say(path)
+    say("Change them to your port's, and ask `tw check` what is wrong.")
+    return 0
 
 
 def copied(source: str, path: str) -> list[str]:
