@@ -15,6 +15,10 @@ import pytest
 from browser import EXAMPLES, PROGRAM
 from tidewise_board.command import init
 from tidewise_board.command.main import run
+from tidewise_board.core.program import Program, Text
+from tidewise_board.core.reading import timetable_of
+from tidewise_board.core.store import Store
+from tidewise_board.library.folder import read
 
 PORTS = os.path.join(os.path.dirname(init.__file__), "..", "library", "ports")
 
@@ -223,15 +227,25 @@ class TestWhy:
                                          "There is no plan of the day yet with which that could be compared."]
 
     def test_against_a_plan(self, tw: Tw, calls: str) -> None:
-        assert tw("plan", calls).status == 0
-        said = {}
-        for slot in range(12, 17):
-            time = f"{6 + (40 + 15 * (slot - 12)) // 60:02}:{(40 + 15 * (slot - 12)) % 60:02}"
-            answer = json.loads(tw("why", "Hector", time, "--folder", calls, "--json").out)
-            said[answer["time"] == answer["planned"]] = answer["broken"]
-        # Where she is planned nothing is in her way, and beside that somebody is.
-        assert said[True] == [] if True in said else True
-        assert any("Hector" in line for line in said[False]) or said[False] == []
+        folder, store = read(calls), Store(os.path.join(calls, ".tw"))
+        day, tides = store.put(folder.instance.encode()), store.put(folder.tides.encode())
+        answer, cert = Program(PROGRAM, store).make("prove", "port", Text(day, "day.json"), Text(tides, "tides.csv"), "1000", "proof")
+        assert answer.status == 0 and cert
+        slots = timetable_of(store.get(cert))
+        assert slots
+        number = store.insert("INSERT INTO day(name) VALUES (?)", folder.day)
+        run = store.insert("INSERT INTO run(day, kind, label, instance, tides, budget, program, state, cert) "
+                           "VALUES (?, 'plan', 'plan', ?, ?, 1000, '', 'done', ?)", number, day, tides, cert)
+        store.insert("INSERT INTO plan(day, number, run) VALUES (?, 1, ?)", number, run)
+        hector, iris = slots[2], slots[3]
+        done = tw("why", "Hector", folder.clock.short(hector), "--folder", calls)
+        assert done.out.splitlines()[1] == "In plan 1 nothing is in her way."
+        # In the slot of Iris, who goes the same way.
+        done = tw("why", "Hector", folder.clock.short(iris), "--folder", calls)
+        assert done.out.splitlines()[1:] == ["In plan 1 these would break:", "  Hector and Iris apart: 0:30 if Hector is first, 1:00 if Iris is"]
+        edit(calls, "ships.csv", "Iris", "Ibis")
+        done = tw("why", "Hector", folder.clock.short(iris), "--folder", calls, "--json")
+        assert (json.loads(done.out)["plan"], done.err) == (None, "The plan has other ships: `tw plan` makes one of those that are there now.\n")
 
     @pytest.mark.parametrize("words,cause", [
         (["Skua", "08:00"], "Skua is no ship of this day"), (["Hector"], "a time is missing: tw why SHIP TIME"),
