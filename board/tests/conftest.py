@@ -4,8 +4,10 @@ from __future__ import annotations
 import os
 import sys
 from collections.abc import Iterator
+from typing import Any
 
 import pytest
+from flask.testing import FlaskClient
 
 HERE = os.path.dirname(os.path.abspath(__file__))
 sys.path[:0] = [HERE, os.path.dirname(HERE)]
@@ -15,6 +17,10 @@ from tidewise_board.core import days  # noqa: E402
 from tidewise_board.core.program import Program  # noqa: E402
 from tidewise_board.core.runs import Inputs, Runs  # noqa: E402
 from tidewise_board.core.store import Store  # noqa: E402
+from tidewise_board.web.app import create  # noqa: E402
+from tidewise_board.web.guard import token_of  # noqa: E402
+
+KEY = "a key"
 
 if not os.access(PROGRAM, os.X_OK):
     pytest.exit(f"{PROGRAM} isn't built: name a program by TIDEWISE", 4)
@@ -51,3 +57,32 @@ def contested(store: Store, program: Program) -> Inputs:
     assert made.good and made.instance and made.tides
     store.insert("INSERT INTO day(name) VALUES ('contested')")
     return Inputs(store.put(made.instance.encode()), store.put(made.tides.encode()))
+
+
+class Client(FlaskClient):
+    """Asks for the board's own address."""
+
+    def open(self, *words: Any, **options: Any) -> Any:
+        return super().open(*words, **{"base_url": "http://127.0.0.1:8420", **options})
+
+
+@pytest.fixture
+def client(store: Store, program: Program, runs: Runs) -> Any:
+    app = create(store, program, runs, KEY, 8420)
+    app.test_client_class = Client
+    return app.test_client()
+
+
+def planned(store: Store, runs: Runs, *names: str) -> int:
+    """The run of a day of these example files, once it has ended; the day is number 1."""
+    made = days.make(days.dropped(example(*names)), runs.program)
+    assert made.instance and made.tides
+    store.insert("INSERT INTO day(name) VALUES (?)", names[0])
+    run = runs.begin(1, Inputs(store.put(made.instance.encode()), store.put(made.tides.encode())), "plan", "day", 20000)
+    assert runs.wait(run)["state"] == "done"
+    return run
+
+
+def entered(client: Any) -> dict[str, str]:
+    assert client.get(f"/enter?key={KEY.replace(' ', '+')}").status_code == 303
+    return {"X-Board": token_of(KEY)}

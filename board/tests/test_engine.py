@@ -242,7 +242,7 @@ time.sleep(600)
 
 
 def test_one_board_to_a_folder(store: Store) -> None:
-    words = [sys.executable, "-m", "tidewise_board", "--data", store.folder, "--program", PROGRAM, "--port"]
+    words = [sys.executable, "-m", "tidewise_board.web.serve", "--data", store.folder, "--program", PROGRAM, "--port"]
     here = os.path.dirname(os.path.dirname(os.path.abspath(__file__)))
     with subprocess.Popen([*words, "8479"], cwd=here, stdout=subprocess.PIPE) as board:
         assert board.stdout and board.stdout.readline()

@@ -8,39 +8,13 @@ from dataclasses import asdict
 from typing import Any
 
 import pytest
-from conftest import example
-from flask.testing import FlaskClient
+from conftest import KEY, entered, example
 from tidewise_board.core import days
 from tidewise_board.core.bundle import NAMES, NoBundle, calendar, opened, packed
 from tidewise_board.core.facts import Port
-from tidewise_board.web.guard import token_of
 from tidewise_board.core.program import Program
 from tidewise_board.core.runs import Inputs, Runs
 from tidewise_board.core.store import Store
-from tidewise_board.web.app import create
-from tidewise_board.core.wishes import wishes_of
-
-KEY = "a key"
-
-
-class Client(FlaskClient):
-    """Asks for the board's own address."""
-
-    def open(self, *words: Any, **options: Any) -> Any:
-        return super().open(*words, **{"base_url": "http://127.0.0.1:8420", **options})
-
-
-@pytest.fixture
-def client(store: Store, program: Program, runs: Runs) -> Any:
-    app = create(store, program, runs, KEY, 8420)
-    app.test_client_class = Client
-    return app.test_client()
-
-
-def entered(client: Any) -> dict[str, str]:
-    assert client.get(f"/enter?key={KEY.replace(' ', '+')}").status_code == 303
-    return {"X-Board": token_of(KEY)}
-
 
 def test_who_may_ask(client: Any) -> None:
     assert client.get("/").status_code == 403
@@ -117,58 +91,6 @@ def test_a_published_plan(client: Any, store: Store, runs: Runs, contested: Inpu
             new.writestr(name, old.read(name) + (b" " if name == "table.csv" else b""))
     said = client.post("/api/audit", data={"bundle": (io.BytesIO(broken.getvalue()), "b.zip")}, headers=token).json
     assert not said["sound"] and [one["name"] for one in said["sums"] if not one["good"]] == ["table.csv"]
-
-
-def test_a_delay_outlives_a_repair(client: Any, store: Store, runs: Runs, program: Program) -> None:
-    """`carry` knows nothing of an earlier repair, so the board tells it again what has sailed, and keeps first slots itself."""
-    token = entered(client)
-    made = days.make(days.dropped(example("day.json", "day-tides.csv")), program)
-    assert made.instance and made.tides
-    store.insert("INSERT INTO day(name) VALUES ('day')")
-    number = runs.begin(1, Inputs(store.put(made.instance.encode()), store.put(made.tides.encode())), "plan", "day", 20000)
-    runs.wait(number)
-
-    def repaired(run: int, *events: dict[str, object], now: int = 0) -> int:
-        plan = client.post(f"/api/run/{run}/accept", json={}, headers=token).json["plan"]
-        for event in events:
-            assert client.post(f"/api/plan/{plan}/events", json=event, headers=token).status_code == 200
-        found = int(client.post(f"/api/plan/{plan}/repair", json={"now": now}, headers=token).json["run"])
-        assert runs.wait(found)["state"] == "done"
-        return found
-
-    first = repaired(number, {"kind": "sailed", "ship": 8, "slot": 0}, {"kind": "sailed", "ship": 4, "slot": 17},
-                     {"kind": "late", "ship": 1, "count": 6}, {"kind": "out", "count": 2})
-    assert runs.get(first)["verdict"].startswith("optimal ")
-    second = repaired(first, {"kind": "late", "ship": 9, "count": 3})
-    lines = store.get(runs.get(second)["plan"]).decode().splitlines()
-    assert lines[:2] == ["plan 2", "w 2"] and lines[2 + 8] == "k 0" and lines[2 + 4] == "k 17"
-    assert lines[2 + 1].startswith("o ") and lines[2 + 1].endswith(" 30")
-    third = repaired(second, {"kind": "sailed", "ship": 0, "slot": 21}, now=25)
-    wishes = wishes_of(store.get(runs.get(third)["plan"]).decode())[0]
-    assert {wish.first for wish in wishes} >= {None, 25, 30} and min(wish.first for wish in wishes if wish.first is not None) == 25
-    bad = {"kind": "late", "ship": 8, "count": 1}
-    plan = client.post(f"/api/run/{third}/accept", json={}, headers=token).json["plan"]
-    assert client.post(f"/api/plan/{plan}/events", json=bad, headers=token).status_code == 409
-
-
-def test_the_events_of_the_guide(client: Any, store: Store, runs: Runs, program: Program) -> None:
-    """docs/PLANNING.md, "A plan is watched": what is broken after each of examples/events.txt."""
-    token = entered(client)
-    made = days.make(days.dropped(example("day.json", "day-tides.csv")), program)
-    assert made.instance and made.tides
-    store.insert("INSERT INTO day(name) VALUES ('day')")
-    number = runs.begin(1, Inputs(store.put(made.instance.encode()), store.put(made.tides.encode())), "plan", "day", 20000)
-    runs.wait(number)
-    plan = client.post(f"/api/run/{number}/accept", json={}, headers=token).json["plan"]
-    kinds = {"s": ("sailed", "ship", "slot"), "d": ("late", "ship", "count"), "w": ("out", "count"), "b": ("back", "count")}
-    for line in example("events.txt")[0][1].splitlines()[1:-1]:
-        letter, *numbers = line.split(" ")
-        kind, *names = kinds[letter]
-        event = {"kind": kind, **dict(zip(names, map(int, numbers)))}
-        said = client.post(f"/api/plan/{plan}/events", json=event, headers=token).json
-    assert [len(one["broken"]) for one in said["events"]] == [0, 0, 1, 3, 2, 3]
-    assert said["events"][2]["broken"] == ["no more than 9 tugs at once"] and said["broken"][0] == "Bittern and Gannet don't meet in Narrows"
-    assert len(client.post(f"/api/plan/{plan}/events", json={"undo": True}, headers=token).json["events"]) == 5
 
 
 @pytest.mark.parametrize("names", [["../evil"], ["README.txt"], [*NAMES, "more"], []])

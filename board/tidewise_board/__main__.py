@@ -1,7 +1,7 @@
-"""`python3 -m tidewise_board`."""
+"""`python3 -m tidewise_board` is `tw`."""
 from __future__ import annotations
 
-from .web.serve import main
+from .command.main import main
 
 if __name__ == "__main__":
     main()

@@ -9,7 +9,7 @@ from typing import Any
 
 from .facts import Port, clocked, port_of
 from ..library import whatif
-from .program import Failed, Text, Word
+from .program import Failed, Program, Text, Word
 from .reading import Unread, Verdict, tonnes
 from .runs import ENDED, Runs, inputs_of
 from .store import Damaged
@@ -22,8 +22,21 @@ MEANINGS = {
 }
 
 
+# What is said where the operator has named no program.
+NONE_NAMED = "no program is named: every answer says that it comes from an unproved build"
 # The second checker's line is one of its own if it begins so.
 SILENT = ("not within", "no answer")
+
+
+def build_words(program: Program) -> str:
+    """Which program answers here: its version, and whether its operator named these very bytes as proved."""
+    return f"{program.version}, {'proved' if program.proved else 'an unproved build'}"
+
+
+def warning_words(program: Program) -> str:
+    """What stands on each page of a program that nobody named."""
+    return (f"The board calls nothing proved: this program’s SHA-256, {program.digest[:12]}…, isn’t one that you named as that of a"
+            " proved program.")
 
 
 def headline(said: Verdict, proved: bool) -> str:

@@ -12,6 +12,7 @@ from ..core import race
 from ..core.program import Failed, Program
 from ..core.reading import Unread, tonnes
 from ..core.runs import Runs
+from ..core.shown import build_words, warning_words
 from ..core.store import Damaged, Store
 
 
@@ -42,7 +43,7 @@ def whole(value: object, low: int, high: int) -> int:
 
 
 def create(store: Store, program: Program, runs: Runs, key: str, port: int) -> Flask:
-    from . import audit, berths, compare, day, owner, plan, publish, underway, windows
+    from . import audit, berths, compare, day, names, owner, plan, publish, underway, windows
     race.take_up(runs)
     app = Flask(__name__)
     app.extensions["board"] = Board(store, program, runs)
@@ -50,12 +51,13 @@ def create(store: Store, program: Program, runs: Runs, key: str, port: int) -> F
     app.jinja_env.trim_blocks = app.jinja_env.lstrip_blocks = True
     app.jinja_env.filters["tonnes"] = tonnes
     guard(app, key, port)
-    for part in (day, plan, berths, windows, compare, underway, publish, audit, owner):
+    for part in (day, plan, berths, windows, compare, underway, publish, audit, owner, names):
         app.register_blueprint(part.pages)
 
     @app.context_processor
     def everywhere() -> dict[str, Any]:
-        return {"token": token_of(key), "program": program}
+        return {"token": token_of(key), "program": program, "who": names.told(), "build": build_words(program),
+                "warning": warning_words(program)}
 
     @app.errorhandler(Failed)
     @app.errorhandler(Unread)

@@ -9,7 +9,7 @@ from flask import Blueprint, Response, abort, render_template
 
 from .day import day_of
 from ..core.facts import facts, port_of
-from ..core.pins import pinned, why_not
+from ..core.pins import bare_of, pinned, why_not
 from ..core.program import Text
 from ..core.runs import ENDED, Inputs, inputs_of
 from ..core.shown import picture_words, root_of, seal, shown, worth
@@ -70,7 +70,8 @@ def slots(number: int) -> Any:
     if timetable is None or here.runs.verdict(number) is None:
         return {"ships": []}
     root = root_of(here.runs, run)
-    wishes, withdrawn = wishes_of(here.store.get(root["plan"]).decode()) if root["plan"] else ([], 0)
+    bare = bare_of(here.store, root)
+    wishes, withdrawn = wishes_of(bare) if bare else ([], 0)
     return Response(facts(here.program, inputs_of(run), timetable, wishes, withdrawn), mimetype="application/json")
 
 
@@ -84,10 +85,10 @@ def pin(number: int) -> Any:
         raise ValueError("only a plan with a timetable can be touched")
     pins = {whole(int(ship), 0, len(port.ships) - 1): whole(slot, 0, port.slots) for ship, slot in dict(asked.get("pins", {})).items()}
     root = root_of(here.runs, run)
-    if not pins:
+    if not pins and root["pins"] == "{}":
         return {"run": root["id"]}
-    text = pinned(timetable, pins, here.store.get(root["plan"]).decode() if root["plan"] else None)
-    label = ", ".join(f"{port.ships[ship]} at {port.clock(slot)}" for ship, slot in sorted(pins.items()))
+    text = pinned(timetable, pins, bare_of(here.store, root))
+    label = ", ".join(f"{port.ships[ship]} at {port.clock(slot)}" for ship, slot in sorted(pins.items())) or "no ship held"
     # A touch of an infeasible answer begins from the plan before it.
     inputs = Inputs(run["instance"], run["tides"], here.store.put(text.encode()))
     again = here.store.row("SELECT id FROM run WHERE day = ? AND base = ? AND plan = ? AND instance = ? AND tides = ? AND program = ?"

@@ -3,21 +3,26 @@ from __future__ import annotations
 
 import json
 import sqlite3
+from dataclasses import asdict
 from typing import Any
 
 from flask import Blueprint, abort, render_template, request
 
-from .day import day_of
-from ..core.facts import in_words, port_of, watched
-from ..core.program import Draft
-from ..core.reading import broken_of, restrictions_of
-from ..core.runs import Inputs, inputs_of
-from ..core.shown import shown
 from .app import board, said, whole
-from ..core.wishes import Wish, plan_text, wishes_of
+from .day import day_of
+from .names import noted
+from ..core.changes import changes, signed
+from ..core.deeds import deeds_of
+from ..core.facts import Port, port_of
+from ..core.happened import Event, event_of, kept_of
+from ..core.runs import Inputs
+from ..core.shown import shown, table_of
+from ..core.underway import Watch
+from ..core.variants import START
 
 pages = Blueprint("underway", __name__)
 REPAIR_BUDGET = 20000
+MOST_EVENTS = 200
 
 
 def plan_of(number: int) -> sqlite3.Row:
@@ -31,6 +36,32 @@ def plans_of(day: int) -> list[sqlite3.Row]:
     return board().store.rows("SELECT * FROM plan WHERE day = ? ORDER BY number", day)
 
 
+def told_of(day: int) -> list[sqlite3.Row]:
+    """All events of a day that stand, as they were told; a repair doesn't end them."""
+    return board().store.rows("SELECT * FROM event WHERE day = ? ORDER BY id", day)
+
+
+def events_of(day: int) -> list[Event]:
+    return [event_of(json.loads(row["line"])) for row in told_of(day)]
+
+
+def own_inputs(run: sqlite3.Row) -> Inputs:
+    """The inputs that a planner gave, without what was closed since."""
+    frozen = board().store.row("SELECT instance, tides FROM input WHERE id = ?", run["input"]) if run["input"] else None
+    return Inputs(frozen["instance"], frozen["tides"]) if frozen else Inputs(run["instance"], run["tides"])
+
+
+def watch_of(plan: sqlite3.Row, now: int) -> Watch:
+    here = board()
+    inputs = own_inputs(here.runs.get(plan["run"]))
+    port = port_of(here.program, inputs.instance)
+    return Watch(here.program, inputs, port, here.runs.timetable(plan["run"]) or [], events_of(plan["day"]), whole(now, 0, port.slots - 1))
+
+
+def same_clock(one: Port, other: Port) -> bool:
+    return (one.start or START, one.minutes) == (other.start or START, other.minutes)
+
+
 @pages.post("/api/run/<int:number>/accept")
 def accept(number: int) -> Any:
     """Makes the timetable of a run the day's plan."""
@@ -41,114 +72,97 @@ def accept(number: int) -> Any:
     last = plans_of(run["day"])
     if last and last[-1]["run"] == number:
         return {"plan": last[-1]["id"]}
-    events = json.dumps([row["line"] for row in here.store.rows("SELECT line FROM event WHERE plan = ? ORDER BY id", last[-1]["id"])]
-                        ) if last else "[]"
-    return {"plan": here.store.insert("INSERT INTO plan(day, number, run, events) VALUES (?, ?, ?, ?)", run["day"], len(last) + 1, number,
-                                      events)}
+    told = [json.loads(row["line"]) for row in told_of(run["day"])]
+    if last and told:
+        before = here.runs.get(last[-1]["run"])
+        if not same_clock(port_of(here.program, before["instance"]), port_of(here.program, run["instance"])):
+            raise ValueError("what has happened was told in the clock of the last plan, and this one begins at another time or has other slots")
+    with here.store.change():
+        plan = here.store.insert("INSERT INTO plan(day, number, run, events) VALUES (?, ?, ?, ?)", run["day"], len(last) + 1, number,
+                                 json.dumps(told))
+        noted(run["day"], f"made it plan {len(last) + 1}: {run['label']}")
+    return {"plan": plan}
 
 
-def line_of(event: dict[str, Any], ships: int, slots: int) -> str:
-    """An event's line; whether it fits the day, the program says."""
-    kind = event.get("kind")
-    if kind == "sailed":
-        return f"s {whole(event.get('ship'), 0, ships - 1)} {whole(event.get('slot'), 0, slots - 1)}"
-    if kind == "late":
-        return f"d {whole(event.get('ship'), 0, ships - 1)} {whole(event.get('count'), 1, slots)}"
-    if kind in ("out", "back"):
-        return f"{'w' if kind == 'out' else 'b'} {whole(event.get('count'), 1, 1000)}"
-    raise ValueError("no such event")
-
-
-def known(plan: sqlite3.Row) -> tuple[list[str], list[int]]:
-    """What held when a plan was accepted, as events over its timetable, and the first slot that each ship may still have. `carry` knows
-    nothing of a repair before: so ships that have sailed and tugs that are out are told again, and a delay is kept as a first slot."""
-    run = board().runs.get(plan["run"])
-    timetable = board().runs.timetable(plan["run"]) or []
-    if run["plan"] is None:
-        return [], [0] * len(timetable)
-    wishes, withdrawn = wishes_of(board().store.get(run["plan"]).decode())
-    pins = {int(ship) for ship in json.loads(run["pins"])}
-    lines = [f"s {ship} {wish.slot}" for ship, wish in enumerate(wishes) if wish.first is None and ship not in pins]
-    return lines + ([f"w {withdrawn}"] if withdrawn else []), [wish.first or 0 for wish in wishes]
-
-
-def asked(form: str, plan: sqlite3.Row, lines: list[str]) -> Any:
-    """`audit` or `carry` of a plan's timetable and these events."""
-    here = board()
-    run = here.runs.get(plan["run"])
-    table = watched(here.runs.timetable(plan["run"]) or [])
-    events = "events 1\n" + "".join(f"{line}\n" for line in lines) + "end\n"
-    return here.program.ask(form, "port", *inputs_of(run).words()[:2], Draft(table.encode(), "table.txt"), Draft(events.encode(), "events.txt"))
+@pages.post("/api/plan/<int:number>/keep")
+def keep(number: int) -> Any:
+    """Puts down that a repair was looked at, and the plan kept."""
+    plan = plan_of(number)
+    noted(plan["day"], f"kept plan {plan['number']}, and not its repair")
+    return {}
 
 
 @pages.get("/day/<int:number>/underway")
 def underway(number: int) -> str:
-    here, plans = board(), []
-    for plan in plans_of(number):
-        plans.append({"plan": plan, "run": shown(here.runs, plan["run"]), "events": json.loads(plan["events"])})
-    port = port_of(here.program, here.runs.get(plans[-1]["plan"]["run"])["instance"]) if plans else None
+    here, rows = board(), plans_of(number)
+    plans = [{"plan": plan, "run": shown(here.runs, plan["run"])} for plan in rows]
+    port = port_of(here.program, own_inputs(here.runs.get(rows[-1]["run"])).instance) if rows else None
     return render_template("underway.html", day=day_of(number), plans=plans, port=port, page="underway",
-                           clock=[port.clock(slot) for slot in range(port.slots)] if port else [])
+                           deeds=deeds_of(here.store, number), clock=[port.clock(slot) for slot in range(port.slots + 1)] if port else [])
+
+
+def answer_of(plan: sqlite3.Row, watch: Watch) -> dict[str, Any]:
+    """The events so far, and what each breaks."""
+    rows, broken = told_of(plan["day"]), watch.broken()
+    return {"events": [{"id": row["id"], "said": event.said(watch.port.clock), "broken": state, "before": row["plan"] != plan["id"],
+                        "made": row["made"]} for row, event, state in zip(rows, watch.events, broken[1:])],
+            "broken": broken[-1], "noted": watch.noted(), "last": max([0, *watch.sailed_slots()])}
 
 
 @pages.get("/api/plan/<int:number>/events")
-@pages.post("/api/plan/<int:number>/events")
 def events(number: int) -> Any:
-    """The events so far and what each breaks; a new one is kept only if the program takes it."""
-    here, plan = board(), plan_of(number)
-    run = here.runs.get(plan["run"])
-    port = port_of(here.program, run["instance"])
-    before, _ = known(plan)
-    lines = [row["line"] for row in here.store.rows("SELECT line FROM event WHERE plan = ? ORDER BY id", number)]
-    if request.method == "POST":
-        new = said()
-        if new.get("undo"):
-            with here.store.change() as db:
-                db.execute("DELETE FROM event WHERE id = (SELECT max(id) FROM event WHERE plan = ?)", (number,))
-            lines = lines[:-1]
-        else:
-            line = line_of(new, len(port.ships), port.slots)
-            answer = asked("audit", plan, [*before, *lines, line])
-            if answer.status != 0:
-                return {"error": refused(answer.output.strip())}, 409
-            here.store.insert("INSERT INTO event(day, plan, line) VALUES (?, ?, ?)", plan["day"], number, line)
-            lines.append(line)
-    answer = asked("audit", plan, [*before, *lines])
-    restrictions = restrictions_of(here.program.ask("explain", "port", *inputs_of(run).words()[:2]).output)
-    states = [[in_words(restrictions[broken], port) for broken in state] for state in broken_of(answer.output)]
-    return {"events": [{"said": event_words(line, port.ships, port.clock), "broken": state}
-                       for line, state in zip([*before, *lines], states[1:])], "before": len(before), "broken": states[-1],
-            "last": max([int(line.split(" ")[2]) for line in [*before, *lines] if line[0] == "s"], default=0)}
+    plan = plan_of(number)
+    return answer_of(plan, watch_of(plan, request.args.get("now", 0, int)))
 
 
-def refused(line: str) -> str:
-    words = {"range": "there is no such slot left", "sailed": "this ship has sailed already", "stays": "this ship stays",
-             "fleet": "there are not so many tugs"}
-    return f"{words.get(line.split(' ')[-1], 'refused')} ({line})"
+@pages.post("/api/plan/<int:number>/events")
+def tell(number: int) -> Any:
+    """Takes a new event, only if the program does; or takes one back."""
+    here, plan, asked = board(), plan_of(number), said()
+    watch = watch_of(plan, asked.get("now", 0))
+    if "undo" in asked:
+        undo(plan, whole(asked["undo"], 1, 1 << 60), watch)
+    else:
+        event = event_of(asked)
+        why = watch.refusal(event)
+        if why is not None or len(watch.events) >= MOST_EVENTS:
+            return {"error": why or f"no more than {MOST_EVENTS} events"}, 409
+        with here.store.change():
+            here.store.insert("INSERT INTO event(day, plan, line) VALUES (?, ?, ?)", plan["day"], number, json.dumps(kept_of(event)))
+            noted(plan["day"], f"told: {event.said(watch.port.clock)}")
+    return answer_of(plan, watch_of(plan, asked.get("now", 0)))
 
 
-def event_words(line: str, ships: list[str], clock: Any) -> str:
-    kind, *numbers = line.split(" ")
-    if kind == "s":
-        return f"{ships[int(numbers[0])]} sailed at {clock(int(numbers[1]))}"
-    if kind == "d":
-        return f"{ships[int(numbers[0])]} is {numbers[1]} slots late"
-    return f"{numbers[0]} tugs {'out' if kind == 'w' else 'back'}"
+def undo(plan: sqlite3.Row, number: int, watch: Watch) -> None:
+    row = board().store.row("SELECT * FROM event WHERE id = ? AND day = ?", number, plan["day"])
+    if row is None:
+        abort(404)
+    with board().store.change() as db:
+        db.execute("DELETE FROM event WHERE id = ?", (number,))
+        noted(plan["day"], f"took back: {event_of(json.loads(row['line'])).said(watch.port.clock)}")
 
 
 @pages.post("/api/plan/<int:number>/repair")
 def repair(number: int) -> Any:
-    """Carries the events to a plan, and proves its repair. No ship may have a slot before now, of which `carry` knows nothing but
-    that of the last sailing."""
-    here, plan = board(), plan_of(number)
+    """Proves the best plan that the events leave, with no ship before now and the pins of this plan held."""
+    here, plan, asked = board(), plan_of(number), said()
     run = here.runs.get(plan["run"])
-    now = whole(said().get("now", 0), 0, port_of(here.program, run["instance"]).slots - 1)
-    before, firsts = known(plan)
-    lines = [row["line"] for row in here.store.rows("SELECT line FROM event WHERE plan = ? ORDER BY id", number)]
-    answer = asked("carry", plan, [*before, *lines])
-    if answer.status != 0:
-        raise ValueError(answer.output.strip())
-    wishes, withdrawn = wishes_of(answer.output)
-    merged = [wish if wish.first is None else Wish(wish.slot, max(wish.first, first, now)) for wish, first in zip(wishes, firsts)]
-    inputs = Inputs(run["instance"], run["tides"], here.store.put(plan_text(merged, withdrawn).encode()))
-    return {"run": here.runs.begin(run["day"], inputs, "repair", f"repair of plan {plan['number']}", REPAIR_BUDGET, run["input"], plan["run"])}
+    watch = watch_of(plan, asked.get("now", 0))
+    made = watch.repair({int(ship): slot for ship, slot in json.loads(run["pins"]).items()})
+    begun = here.runs.begin(run["day"], made.inputs, "repair", f"repair of plan {plan['number']}", REPAIR_BUDGET, run["input"], plan["run"],
+                            made.pins)
+    here.store.insert("INSERT INTO hold(run, bare) VALUES (?, ?)", begun, here.store.put(made.bare.encode()))
+    return {"run": begun, "noted": made.noted}
+
+
+@pages.get("/api/plan/<int:number>/changes/<int:other>")
+def changed(number: int, other: int) -> Any:
+    """Who sails at another time, or with another cargo, in another run of the day."""
+    here, plan = board(), plan_of(number)
+    run, new = here.runs.get(plan["run"]), here.runs.get(other)
+    if new["day"] != plan["day"]:
+        abort(404)
+    port = port_of(here.program, new["instance"])
+    found = changes(port, table_of(here.runs, run), table_of(here.runs, new), port_of(here.program, run["instance"]))
+    return {"rows": [{**asdict(one), "difference": signed(one.difference) if one.difference else ""} for one in found],
+            "total": signed(sum(one.difference for one in found))}

@@ -11,8 +11,8 @@ import tempfile
 import time
 import unittest
 
-HERE = os.path.dirname(os.path.abspath(__file__))
-PROGRAM = None
+HERE = os.path.abspath(os.path.join(os.path.dirname(os.path.abspath(__file__)), "..", "..", "examples"))
+PROGRAM = os.environ.get("TIDEWISE")
 # What it reports depends on the fleet alone, or else on all depths, slots and separations.
 FAKE = """#!/usr/bin/env python3
 import json

@@ -14,10 +14,12 @@ import unittest
 from fractions import Fraction
 from math import floor
 
-import tides
+BOARD = os.path.join(os.path.dirname(os.path.abspath(__file__)), "..")
+HERE = os.path.abspath(os.path.join(BOARD, "..", "examples"))
+sys.path.insert(0, BOARD)
+PROGRAM = os.environ.get("TIDEWISE")
+from tidewise_board.library import tides  # noqa: E402
 
-HERE = os.path.dirname(os.path.abspath(__file__))
-PROGRAM = None
 START = "2027-03-14 03:40"
 DAY = ["Berth=waters-berth.txt", "Bar=waters-bar.txt"]
 FROM_LOW = "2027-03-14 03:40 0.58\n2027-03-14 09:52 4.31\n2027-03-14 16:05 0.74\n"

@@ -16,10 +16,12 @@ import sys
 import tempfile
 import unittest
 
-import port
+BOARD = os.path.join(os.path.dirname(os.path.abspath(__file__)), "..")
+HERE = os.path.abspath(os.path.join(BOARD, "..", "examples"))
+sys.path.insert(0, BOARD)
+PROGRAM = os.environ.get("TIDEWISE")
+from tidewise_board.library import port  # noqa: E402
 
-HERE = os.path.dirname(os.path.abspath(__file__))
-PROGRAM = None
 # A range of numbers in the table of places, with its unit and what it depends on.
 LIMITS = (r"([0-9]+) to ([0-9]+)(?: (cm|slots|tugs|tenths of a tonne for a centimetre of draft))?"
           r"(?:, (?:at least|above|from) .*)?")
@@ -215,7 +217,7 @@ class Refused(unittest.TestCase):
                 ("tpc", 2, "", '"" is no whole number of tenths of a tonne'),
                 ("deep", 2, "17.2", '"17.2" is no whole number of centimetres'),
                 ("job", 2, "1h", '"1h" is no whole number of slots'),
-                ("name", 2, "Möwe Nö", '"Möwe Nö" is no name of 1 to 40 plain characters: it has "ö"'),
+                ("name", 2, "Чайка Nö", '"Чайка Nö" is no name of 1 to 40 plain characters: it has "Чайкö"'),
                 ("earliest", 4, "14.03.2027 05:30",
                  "14.03.2027 is no date of the form 2027-03-14, with a year of four digits (--dates dmy or mdy?)"),
                 ("tpc", 2, "3001", "3001 isn't from 0 to 3000"),

@@ -10,9 +10,9 @@ import tempfile
 import threading
 import unittest
 
-HERE = os.path.dirname(os.path.abspath(__file__))
+HERE = os.path.abspath(os.path.join(os.path.dirname(os.path.abspath(__file__)), "..", "..", "examples"))
 WATCH = os.path.join(HERE, "watch.sh")
-PROGRAM = None
+PROGRAM = os.environ.get("TIDEWISE")
 CONTESTED = [os.path.join(HERE, name) for name in ("contested.json", "day-tides.csv")]
 
 
