@@ -7,7 +7,8 @@ import json
 import sqlite3
 from typing import Any
 
-from .facts import Port, port_of
+from .audited import Audited
+from .facts import Port, clocked, port_of
 from ..library import whatif
 from .program import Failed, Program, Text, Word
 from .reading import Unread, Verdict, tonnes
@@ -58,6 +59,23 @@ def meaning(said: Verdict, pins: dict[str, int], repair: bool) -> str:
     held = "with these ships held" if pins else "with what has happened" if repair else ""
     return f"{text}{', ' + held if held else ''}" + (", and none that carries as much moves fewer ships" if said.moved is not None
                                                      and said.word == "optimal" else "")
+
+
+def audit_words(found: Audited, proved: bool) -> tuple[str, str, str]:
+    """What an auditor's page says of a bundle: the seal, the headline and its meaning. Nothing is said of a bundle in which anything
+    isn't what it claims to be."""
+    if found.said is None:
+        return "nothing", "Refused", "the certificate shows nothing of these files"
+    faults = [part.said for part in found.parts if part.good is False]
+    if not found.bundle.sound:
+        faults.insert(0, "its sums aren't those of its files")
+    if not found.agrees:
+        faults.insert(0, f"it claims {found.bundle.said() or 'nothing'}, and verify says {found.line}")
+    if not found.repair and not found.second.startswith(SILENT) and found.second != found.line:
+        faults.insert(0, f"verify says {found.line}, but the second checker {found.second}")
+    if faults:
+        return "nothing", "Not as it claims", "; ".join(faults)
+    return seal(proved, found.said), headline(found.said, proved), meaning(found.said, {}, found.repair)
 
 
 def root_of(runs: Runs, run: sqlite3.Row) -> sqlite3.Row:
@@ -115,6 +133,13 @@ def table_of(runs: Runs, run: sqlite3.Row) -> list[dict[str, str]]:
     return list(csv.DictReader(io.StringIO(said.output, newline=""))) if said.status < 3 else []
 
 
+def by_the_clock(rows: list[dict[str, str]], port: Port) -> list[dict[str, str]]:
+    """The records of `table` for a page: times are the port's clock, also where the day has no start."""
+    names = list(rows[0]) if rows else []
+    times = {"time", *names[names.index("cargo t") + 1:]} if names else set()
+    return [clocked(row, port, times) for row in rows]
+
+
 def picture_words(run: sqlite3.Row) -> list[Word]:
     inputs = inputs_of(run)
     return ["chart", *inputs.form(), *inputs.words(), Text(run["cert"], "cert")]
@@ -168,5 +193,5 @@ def shown(runs: Runs, number: int) -> dict[str, Any]:
         "now": follower.now().listed() if follower else None,
         "seconds": round(run["ended"] - run["began"], 2) if run["ended"] and run["began"] else None,
         "timetable": runs.timetable(number) if said and said.cargo is not None else None,
-        "table": table_of(runs, run) if said else [], "moves": moves_of(runs, run, port) if said and said.cargo is not None else [],
+        "table": by_the_clock(table_of(runs, run), port) if said else [], "moves": moves_of(runs, run, port) if said and said.cargo is not None else [],
     }

@@ -1,27 +1,84 @@
-"""Published plans: frozen, one file, and a sheet of paper."""
+"""Issues of a plan: numbered, frozen, what changed since the last one; a sheet of paper, a table, a calendar, a text, and one file."""
 from __future__ import annotations
 
+import sqlite3
+from dataclasses import dataclass
 from typing import Any
 
 from flask import Blueprint, Response, abort, render_template
 
-from ..core.bundle import calendar, packed, readme, words_of
+from .app import board
+from .berths import named as berths_of
+from .berths import said as stay_words
 from .day import day_of
-from ..core.facts import port_of
+from .names import noted
+from .underway import plan_of, plans_of
+from ..core.bundle import calendar, packed, readme, words_of
+from ..core.changes import Change, changes
+from ..core.deeds import deeds_of
+from ..core.facts import Port, port_of
+from ..core.issue import Head, Sailing, sailings, sheet_csv, text_for_pilots
+from ..core.lanes import lanes
 from ..core.program import Text
 from ..core.runs import inputs_of
-from ..core.shown import picture_words, shown, table_of
-from .underway import plan_of, plans_of
-from .app import board
+from ..core.shown import build_words, picture_words, shown, table_of
 
 pages = Blueprint("publish", __name__)
+
+
+@dataclass(frozen=True)
+class Issue:
+    """A plan as it is issued, or would be: its number among the day's issues, and the one before it."""
+    plan: sqlite3.Row
+    number: int
+    last: sqlite3.Row | None
+    changes: list[Change]
+
+    @property
+    def said(self) -> list[str]:
+        return [change.said() for change in self.changes]
+
+
+def issues_of(day: int) -> list[sqlite3.Row]:
+    """The plans of a day that were issued, in the order in which they were."""
+    return board().store.rows("SELECT * FROM plan WHERE day = ? AND frozen IS NOT NULL ORDER BY frozen, id", day)
+
+
+def issue_of(plan: sqlite3.Row) -> Issue:
+    here, before = board(), issues_of(plan["day"])
+    if plan["frozen"]:
+        before = before[:[one["id"] for one in before].index(plan["id"])]
+    last = before[-1] if before else None
+    run, found = here.runs.get(plan["run"]), list[Change]()
+    if last is not None:
+        old = here.runs.get(last["run"])
+        found = changes(port_of(here.program, run["instance"]), table_of(here.runs, old), table_of(here.runs, run),
+                        port_of(here.program, old["instance"]))
+    return Issue(plan, len(before) + 1, last, found)
+
+
+def port_and_rows(run: sqlite3.Row) -> tuple[Port, list[Sailing]]:
+    here = board()
+    port = port_of(here.program, run["instance"])
+    return port, sailings(port, here.store.get(run["instance"]), table_of(here.runs, run))
+
+
+def head_of(issue: Issue, run: dict[str, Any]) -> Head:
+    plan, here = issue.plan, board()
+    row = here.runs.get(plan["run"])
+    title = f"{day_of(plan['day'])['name']}, issue {issue.number} (plan {plan['number']})"
+    issued = f"Issued {plan['frozen']} UTC." if plan["frozen"] else "NOT ISSUED."
+    sums = (f"verify: {run['verdict']}; instance {row['instance'][:16]}, tides {row['tides'][:16]}, certificate {(row['cert'] or '')[:16]};"
+            f" {build_words(here.program)}, {here.program.digest[:16]}")
+    return Head(title, run["headline"], run["meaning"], issued, sums)
 
 
 @pages.get("/day/<int:number>/publish")
 def publish(number: int) -> str:
     here = board()
-    plans = [{"plan": plan, "run": shown(here.runs, plan["run"])} for plan in reversed(plans_of(number))]
-    return render_template("publish.html", day=day_of(number), plans=plans, page="publish")
+    plans = [{"plan": plan, "run": shown(here.runs, plan["run"]), "issue": issue_of(plan),
+              "dated": port_of(here.program, here.runs.get(plan["run"])["instance"]).start is not None} for plan in reversed(plans_of(number))]
+    return render_template("publish.html", day=day_of(number), plans=plans, page="publish", deeds=deeds_of(here.store, number, 20))
 
 
 @pages.post("/api/plan/<int:number>/freeze")
@@ -30,10 +87,22 @@ def freeze(number: int) -> Any:
     here, plan = board(), plan_of(number)
     if plan["frozen"]:
         return {"bundle": plan["bundle"]}
-    run = here.runs.get(plan["run"])
     said = here.runs.verdict(plan["run"], True)
-    if said is None or said.cargo is None:
-        raise ValueError("verify doesn't take this certificate")
+    shown_now = shown(here.runs, plan["run"])
+    if said is None or said.cargo is None or shown_now["timetable"] is None:
+        raise ValueError(shown_now["fault"] or "verify doesn't take this certificate")
+    issue = issue_of(plan)
+    bundle = here.store.put(packed(files_of(plan)))
+    with here.store.change() as db:
+        db.execute("UPDATE plan SET bundle = ?, frozen = datetime('now') WHERE id = ? AND frozen IS NULL", (bundle, number))
+        noted(plan["day"], f"issued plan {plan['number']} as issue {issue.number}")
+    return {"bundle": bundle}
+
+
+def files_of(plan: sqlite3.Row) -> dict[str, bytes]:
+    """The files of a bundle but for its sums."""
+    here = board()
+    run = here.runs.get(plan["run"])
     line = here.runs.line_of(run, run["cert"])
     inputs, port = inputs_of(run), port_of(here.program, run["instance"])
     files = {"day.json": here.store.get(run["instance"]), "tides.csv": here.store.get(run["tides"]), "certificate": here.store.get(run["cert"]),
@@ -44,15 +113,19 @@ def freeze(number: int) -> Any:
     ics = calendar(port, table_of(here.runs, run), line, run["cert"])
     if ics is not None:
         files["sailings.ics"] = ics.encode()
-    source = here.store.row("SELECT source FROM input WHERE id = ?", run["input"]) if run["input"] else None
-    if source:
+    source = here.store.row("SELECT source, instance FROM input WHERE id = ?", run["input"]) if run["input"] else None
+    # A source makes the day's own instance: where something was closed since, this is another one.
+    if source and source["instance"] == run["instance"]:
         files["source.json"] = here.store.get(source["source"])
     title = f"Plan {plan['number']} of {day_of(plan['day'])['name']}, {plan['made']}"
     files["README.txt"] = readme(title, line, here.program.version, here.program.digest, here.program.proved, words_of(files)).encode()
-    bundle = here.store.put(packed(files))
-    with here.store.change() as db:
-        db.execute("UPDATE plan SET bundle = ?, frozen = datetime('now') WHERE id = ? AND frozen IS NULL", (bundle, number))
-    return {"bundle": bundle}
+    return files
+
+
+def file(name: str, data: bytes | str, kind: str, plan: sqlite3.Row) -> Response:
+    stem, _, end = name.partition(".")
+    return Response(data, mimetype=kind, headers={
+        "Content-Disposition": f'attachment; filename="{stem}-{plan["day"]}-{plan["number"]}.{end}"'})
 
 
 @pages.get("/plan/<int:number>/bundle.zip")
@@ -60,14 +133,42 @@ def bundle(number: int) -> Response:
     plan = plan_of(number)
     if not plan["bundle"]:
         abort(404)
-    name = f"tidewise-{plan['day']}-{plan['number']}.zip"
-    return Response(board().store.get(plan["bundle"]), mimetype="application/zip",
-                    headers={"Content-Disposition": f'attachment; filename="{name}"'})
+    return file("tidewise.zip", board().store.get(plan["bundle"]), "application/zip", plan)
+
+
+@pages.get("/plan/<int:number>/sailings.csv")
+def table(number: int) -> Response:
+    plan = plan_of(number)
+    return file("sailings.csv", sheet_csv(*port_and_rows(board().runs.get(plan["run"]))), "text/csv", plan)
+
+
+@pages.get("/plan/<int:number>/sailings.ics")
+def dates(number: int) -> Response:
+    here, plan = board(), plan_of(number)
+    run = here.runs.get(plan["run"])
+    ics = calendar(port_of(here.program, run["instance"]), table_of(here.runs, run), here.runs.line_of(run, run["cert"]), run["cert"])
+    if ics is None:
+        abort(404)
+    return file("sailings.ics", ics, "text/calendar", plan)
+
+
+@pages.get("/plan/<int:number>/sailings.txt")
+def text(number: int) -> Response:
+    """For pilots, tugs and berths."""
+    here, plan = board(), plan_of(number)
+    run = here.runs.get(plan["run"])
+    port, rows = port_and_rows(run)
+    issue = issue_of(plan)
+    found = lanes(here.program, inputs_of(run), table_of(here.runs, run), berths_of(here, run["input"], port.ships))
+    berths = [f"{lane.name}: " + "; ".join(stay_words(port, stay) for stay in lane.stays) for lane in found]
+    head = head_of(issue, shown(here.runs, plan["run"]))
+    return Response(text_for_pilots(head, rows, berths, issue.said), mimetype="text/plain")
 
 
 @pages.get("/plan/<int:number>/sheet")
 def sheet(number: int) -> str:
     here, plan = board(), plan_of(number)
-    run = here.runs.get(plan["run"])
-    return render_template("sheet.html", day=day_of(plan["day"]), plan=plan, run=shown(here.runs, plan["run"]), inputs=run,
-                           port=port_of(here.program, run["instance"]), page="publish")
+    run, issue = shown(here.runs, plan["run"]), issue_of(plan)
+    port, rows = port_and_rows(here.runs.get(plan["run"]))
+    return render_template("sheet.html", day=day_of(plan["day"]), plan=plan, run=run, issue=issue, head=head_of(issue, run), rows=rows,
+                           port=port, page="publish")

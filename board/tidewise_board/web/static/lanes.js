@@ -3,27 +3,28 @@ import {make} from './api.js';
 import {LEFT, WIDE, x_of} from './rows.js';
 import {shape} from './shapes.js';
 
-const HEIGHT = 26;
-const OWN = 'svg{display:block;width:100%;min-width:960px;max-width:1600px;height:auto;font-size:12px}'
-  + '.lane{fill:#f7f9fb}.stay{fill:#b9dff0;stroke:#0a4a7d}.open{stroke-dasharray:3 3}text{fill:#16222e}.m{fill:#526170}.who{pointer-events:none;font-size:11px}'
+const HEIGHT = 24;
+const OWN = 'svg{display:block;width:100%;min-width:960px;max-width:1600px;height:auto;font-size:11px}.b{font-weight:600}'
+  + '.lane{fill:#f7f9fb}.stay{fill:#b9dff0;stroke:#0a4a7d}.open{stroke-dasharray:3 3}text{fill:#16222e}.m{fill:#526170}.who{pointer-events:none;font-size:10px}.m{font-size:10px}'
   + '.stay:focus-visible{outline:none;stroke-width:2.5}'
   + '@media screen and (prefers-color-scheme:dark){.lane{fill:#131c25}.stay{fill:#1c4a61;stroke:#8ccbff}text{fill:#e8eef4}.m{fill:#9fadba}}';
 
-/** Draws the lanes; `span` is that of the picture's rows, `said` is told a stay's words. */
-export function lanes(host, {lanes: all, slots}, span, said) {
+/** Draws the lanes on the axis of a picture; `said` is told a stay's words. */
+export function lanes(host, {lanes: all, slots}, picture, said) {
+  const span = picture.rows?.[0]?.span ?? slots, wide = picture.svg?.viewBox.baseVal.width ?? 1280;
   const shadow = host.shadowRoot ?? host.attachShadow({mode: 'open'}), sheet = new CSSStyleSheet();
   sheet.replaceSync(OWN);
   shadow.adoptedStyleSheets = [sheet];
   const high = Math.max(1, all.length) * HEIGHT;
-  const svg = shape('svg', {viewBox: `0 0 940 ${high}`, role: 'list', 'aria-label': 'Berths'});
-  all.forEach((lane, place) => svg.append(...drawn(lane, place * HEIGHT, slots, span ?? slots, said)));
+  const svg = shape('svg', {viewBox: `0 0 ${wide} ${high}`, role: 'list', 'aria-label': 'Berths'});
+  all.forEach((lane, place) => svg.append(...drawn(lane, place * HEIGHT, slots, span, said)));
   if (all.length) shadow.replaceChildren(svg); else shadow.replaceChildren(make('span', {}, 'No ship of this day has a berth.'));
 }
 
 function drawn(lane, top, slots, span, said) {
   const words = lane.clear === null ? '' : `clear ${lane.clear} slot${lane.clear === 1 ? '' : 's'}`;
   return [shape('rect', {class: 'lane', x: LEFT, y: top + 2, width: WIDE, height: HEIGHT - 4}),
-    shape('text', {x: 8, y: top + 16}, lane.name), shape('text', {class: 'm', x: LEFT - 8, y: top + 16, 'text-anchor': 'end'}, words),
+    shape('text', {class: 'b', x: 16, y: top + 16}, lane.name), shape('text', {class: 'm', x: LEFT - 8, y: top + 16, 'text-anchor': 'end'}, words),
     ...lane.stays.flatMap((stay) => bar(stay, top, slots, span, said))];
 }
 
@@ -35,6 +36,6 @@ function bar(stay, top, slots, span, said) {
   for (const kind of ['focus', 'pointerenter']) one.addEventListener(kind, () => said(stay.said));
   const beside = to - from < 7 * stay.name.length + 8;
   const left = beside && to + 7 * stay.name.length > LEFT + WIDE;
-  const who = shape('text', {class: 'who', x: beside ? (left ? from - 4 : to + 4) : from + 5, y: top + 17, 'text-anchor': left ? 'end' : 'start'}, stay.name);
+  const who = shape('text', {class: 'who', x: beside ? (left ? from - 4 : to + 4) : from + 5, y: top + 16, 'text-anchor': left ? 'end' : 'start'}, stay.name);
   return [one, who];
 }

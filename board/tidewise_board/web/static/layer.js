@@ -21,7 +21,7 @@ export class Layer {
     const hit = shape('rect', {class: 'hit', x: LEFT, y: row.y, width: WIDE, height: 41, tabindex: 0, role: 'slider', 'data-ship': row.ship,
       'aria-label': `${this.facts[row.ship].name}, slot`, 'aria-valuemin': 0, 'aria-valuemax': this.slots - 1, 'aria-valuenow': now});
     const state = {row, hit, now, at: now, from: null};
-    this.sign(row);
+    if (row.ship in this.pins) held(this.svg, this.over, row, this.pins[row.ship]);
     this.pointer(state);
     hit.addEventListener('focus', () => this.look(state, state.at));
     hit.addEventListener('keydown', (event) => { if (this.key(state, event)) event.preventDefault(); });
@@ -72,21 +72,20 @@ export class Layer {
     this.label.textContent = state.from === null ? '' : words.clock;
     set(hit, {'aria-valuenow': state.at, 'aria-valuetext': words.text});
   }
+}
 
-  /** A pin is a `k` line of a plan, which the picture calls sailed: the board hides that sign, and puts its own. */
-  sign(row) {
-    if (!(row.ship in this.pins)) return;
-    for (const sign of this.svg.querySelectorAll('path.sd>title')) {
-      if (!sign.textContent.startsWith(`ship ${row.ship} has sailed `)) continue;
-      sign.parentNode.nextElementSibling?.remove();
-      sign.parentNode.remove();
-    }
-    const entry = [...this.svg.querySelectorAll(':scope>text.m')].find((one) => one.textContent === 'has sailed');
-    if (entry && !this.svg.querySelector('path.sd>title')) {
-      entry.textContent = 'held';
-      entry.previousElementSibling.setAttribute('class', 'held');
-    }
-    const x = x_of(row.span, this.pins[row.ship] + 0.5);
-    this.over.append(shape('path', {class: 'held', d: `M${x - 4} ${row.y - 1}h8v5l-3 3v5l-1 3l-1 -3v-5l-3 -3z`}));
+/** A pin is a `k` line of a plan, which the picture calls sailed: the board hides that sign, and puts its own. */
+export function held(svg, over, row, slot) {
+  for (const sign of svg.querySelectorAll('path.sd>title')) {
+    if (!sign.textContent.startsWith(`ship ${row.ship} has sailed `)) continue;
+    sign.parentNode.nextElementSibling?.remove();
+    sign.parentNode.remove();
   }
+  const entry = [...svg.querySelectorAll(':scope>text.m')].find((one) => one.textContent === 'has sailed');
+  if (entry && !svg.querySelector('path.sd>title')) {
+    entry.textContent = 'held';
+    entry.previousElementSibling.setAttribute('class', 'held');
+  }
+  const x = x_of(row.span, slot + 0.5);
+  over.append(shape('path', {class: 'held', d: `M${x - 4} ${row.y - 1}h8v5l-3 3v5l-1 3l-1 -3v-5l-3 -3z`}));
 }

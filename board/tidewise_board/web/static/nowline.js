@@ -1,12 +1,7 @@
 // A line for the time now over the program's picture, and the ships that are held for the planner.
-const NAMES = 'http://www.w3.org/2000/svg';
-
-function shape(tag, props, text = '') {
-  const one = document.createElementNS(NAMES, tag);
-  for (const [name, value] of Object.entries(props)) one.setAttribute(name, value);
-  one.textContent = text;
-  return one;
-}
+import {held} from './layer.js';
+import {x_of} from './rows.js';
+import {shape} from './shapes.js';
 
 /** Draws the line at a slot, which may lie within one, as 17.4; for null there is none. `clock` is its label. */
 export function line(picture, slot, clock = '') {
@@ -14,20 +9,18 @@ export function line(picture, slot, clock = '') {
   picture.svg.querySelector('.nowline')?.remove();
   const row = picture.rows?.[0];
   if (slot === null || !row || slot < 0 || slot > row.span) return;
-  const box = picture.svg.viewBox.baseVal, x = picture.x(row, slot);
+  const box = picture.svg.viewBox.baseVal, x = x_of(row.span, slot);
   const group = shape('g', {class: 'nowline', color: 'var(--orange)', 'pointer-events': 'none', role: 'img', 'aria-label': `now: ${clock}`});
   group.append(shape('path', {d: `M${x} ${box.y + 14}V${box.y + box.height - 24}`, stroke: 'currentColor', 'stroke-width': 2, 'stroke-dasharray': '5 3', fill: 'none'}),
     shape('text', {x, y: box.y + 11, fill: 'currentColor', 'text-anchor': 'middle', 'font-size': 11, 'font-weight': 600}, `now ${clock}`));
   picture.svg.append(group);
 }
 
-/** Ships that are held are `k` lines of a plan, which the picture calls sailed: puts the board's own sign there. */
-export function held(picture, pins) {
-  if (!picture.svg) return;
-  picture.over?.remove();
-  picture.over = shape('g', {class: 'over'});
-  picture.svg.append(picture.over);
-  for (const row of picture.rows) picture.marks(row, pins);
+/** Puts the board's own sign at the ships that are held for the planner. */
+export function signs(picture, pins) {
+  const over = shape('g', {class: 'over'});
+  picture.svg?.append(over);
+  for (const row of picture.rows ?? []) if (row.ship in pins) held(picture.svg, over, row, pins[row.ship]);
 }
 
 /** How many slots have passed by this machine's clock since a port's start, as "2027-03-14 00:00"; null where it has none or the day isn't now. */

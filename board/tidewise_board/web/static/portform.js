@@ -42,14 +42,24 @@ export class PortForm {
 
   input(owner, key, path, named = typeof key === 'number' ? path.at(-2) : key) {
     const times = named === TIMES, member = typeof key === 'number' && typeof owner[key] === 'string' ? 'name' : named;
+    if (member === 'heights') return this.choice(owner, member, path);
     const input = make('input', {value: times ? times_text(owner[key]) : String(owner[key] ?? ''), spellcheck: false, autocomplete: 'off'});
-    if (typeof owner[key] === 'number') input.classList.add('num');
+    if (times) input.classList.add('times'); else if (typeof owner[key] === 'number') input.classList.add('num');
     input.addEventListener('input', () => {
       owner[key] = times ? times_of(input.value, this.whole) : value_of(member, input.value, this.whole);
       this.write();
     });
     this.fields.set(path.join('.'), input);
     return input;
+  }
+
+  /** A field with few values; one that the JSON has and that isn't among them stays to be chosen. */
+  choice(owner, member, path) {
+    const select = make('select', {}, ...[...new Set(['least', 'start', String(owner[member])])].map((one) => make('option', {value: one}, one)));
+    select.value = owner[member];
+    select.addEventListener('change', () => { owner[member] = select.value; this.write(); });
+    this.fields.set(path.join('.'), select);
+    return select;
   }
 
   group(owner, member, path) {
@@ -104,7 +114,8 @@ export class PortForm {
 
   remover(items, place, member) {
     const remove = make('button', {type: 'button', title: 'remove'}, '✕');
-    remove.setAttribute('aria-label', `remove ${items[place]?.name ?? place} of ${label(member)}`);
+    const one = items[place], name = typeof one === 'string' ? one : one?.name;
+    remove.setAttribute('aria-label', `remove ${name || place} of ${label(member)}`);
     remove.addEventListener('click', () => { items.splice(place, 1); this.sized(member, place); this.redraw(); });
     return remove;
   }
