@@ -11,6 +11,8 @@ from dataclasses import asdict, dataclass, field
 from typing import Any
 
 from ..library import port as port_script
+from ..library.faults import Fault as Misplaced
+from ..library.heads import cells_of, column_of, under_head
 from ..library import tides as tides_script
 from .program import Program, Text
 from .reading import Fault, faults_of
@@ -113,11 +115,21 @@ def classify(name: str, text: str) -> str:
     head = start.partition("\n")[0].lower()
     if head.startswith(("slot,", "water,", '"slot"', '"water"')):
         return "table"
-    if "direction" in head and "name" in head:
+    if is_line_up(start):
         return "ships"
     if re.search(r"[0-9]{1,2}:?[0-9]{2}\s+-?[0-9]+[.,][0-9]", start):
         return "list"
     raise NoDay(f"{name} is none of: ships (CSV with columns), a port or an instance (JSON), a tide table (CSV), printed waters")
+
+
+def is_line_up(text: str) -> bool:
+    """Whether a text is a table of ships, with a row for each movement or for each call."""
+    try:
+        rows = under_head(cells_of(text))
+    except Misplaced:
+        return False
+    columns = {column_of(head)[0] for head in rows[0][1]} if rows else set()
+    return "name" in columns and bool(columns & {"direction", "arrives", "sails", "loads"})
 
 
 def dropped(files: list[tuple[str, str]]) -> Source:
@@ -139,7 +151,7 @@ def dropped(files: list[tuple[str, str]]) -> Source:
             raise NoDay(f"{found['instance'][0]} has no list of ships") from None
         source = Source(True, found["instance"][1], columns, rows)
     elif "port" in found and "ships" in found:
-        columns, *rows = port_script.cells_of(found["ships"][1].lstrip("\ufeff"))
+        columns, *rows = [cells for _, cells in under_head(cells_of(found["ships"][1].lstrip("\ufeff")))]
         source = Source(False, found["port"][1], columns, [row + [""] * (len(columns) - len(row)) for row in rows if any(row)])
     else:
         raise NoDay("an instance, or a port and a table of ships, is needed")
