@@ -11,6 +11,7 @@
 from __future__ import annotations
 
 import os
+import stat
 from collections.abc import Callable
 from dataclasses import dataclass, field, replace
 from typing import TypeVar
@@ -121,8 +122,12 @@ class Reading:
             raise Wrong(Told(name, "this isn't text in UTF-8; a spreadsheet saves that as CSV UTF-8")) from None
 
     def bytes(self, name: str) -> bytes:
+        path = os.path.join(self.root, name)
         try:
-            with open(os.path.join(self.root, name), "rb") as file:
+            # A pipe would never end.
+            if not stat.S_ISREG(os.stat(path).st_mode):
+                raise Wrong(Told(name, "this is no file"))
+            with open(path, "rb") as file:
                 data = file.read(MOST_BYTES + 1)
         except OSError as fault:
             raise Wrong(Told(name, fault.strerror or "it can't be read")) from None
