@@ -23,6 +23,7 @@ Command = TypeVar("Command", bound=Callable[..., Any])
 STORE = ".tw"
 
 FOLDER = click.argument("folder", default=".", type=click.Path())
+INSIDE = click.option("--folder", metavar="FOLDER", default=".", help="The port's folder, if it isn't the one in which you are.")
 DAY = click.option("--day", metavar="DATE", help="Begin slot 0 on this date, as 2027-03-15, and not on that of port.json.")
 JSON = click.option("--json", "as_json", is_flag=True, help="Print the answer as JSON, in the form that docs/TW.md has.")
 PROGRAM = click.option("--program", metavar="PATH", envvar="TIDEWISE", default="tidewise", show_default=True,
@@ -32,6 +33,13 @@ PROGRAM = click.option("--program", metavar="PATH", envvar="TIDEWISE", default="
 def port_options(command: Command) -> Command:
     """FOLDER, --day, --json and --program, which most commands have."""
     for option in (PROGRAM, JSON, DAY, FOLDER):
+        command = option(command)
+    return command
+
+
+def asking_options(command: Command) -> Command:
+    """--folder, --day, --json and --program, of a command whose words are ships or changes."""
+    for option in (PROGRAM, JSON, DAY, INSIDE):
         command = option(command)
     return command
 
@@ -100,10 +108,16 @@ def say_rows(rows: list[list[str]], right: frozenset[int] = frozenset()) -> None
         click.echo("  ".join(cells).rstrip())
 
 
+def near(path: str) -> str:
+    """A path as one would type it here."""
+    short = os.path.relpath(path)
+    return path if short.startswith("..") else short
+
+
 def terminal() -> bool:
     """Whether somebody reads standard error as it is written."""
     return sys.stderr.isatty()
 
 
-__all__ = ["DAY", "FOLDER", "JSON", "PROGRAM", "Busy", "Failed", "Place", "alone", "place_of", "port_options", "program_of", "say", "say_json",
-           "say_rows", "store_of", "terminal", "warn"]
+__all__ = ["DAY", "FOLDER", "INSIDE", "JSON", "PROGRAM", "Busy", "Failed", "Place", "alone", "asking_options", "near", "place_of", "port_options",
+           "program_of", "say", "say_json", "say_rows", "store_of", "terminal", "warn"]

@@ -52,7 +52,7 @@ def sailings(port: Port, instance: bytes, table: list[dict[str, str]]) -> list[S
         slot = int(row["slot"]) if row["slot"] else None
         passes = sorted((minute_of(row[name], port), name) for name in port.waypoints if slot is not None and row.get(name))
         found.append(Sailing(plain(row["name"]), SENSE.get(row["direction"], row["direction"]), slot, "stays" if slot is None else port.clock(slot),
-                             [(name, port.clock_at(minute)) for minute, name in passes], depth(row), metres(row.get("under keel cm", "")),
+                             [(name, port.clock_of(minute)) for minute, name in passes], depth(row), metres(row.get("under keel cm", "")),
                              plain(row.get("limiting waypoint", "")), int(ship["tugs"]), span(int(ship["job"]) * port.minutes),
                              row.get("cargo t", "")))
     return sorted(found, key=lambda one: (one.slot is None, one.slot or 0, one.name))

@@ -66,8 +66,9 @@ def _told(program: Program, inputs: Inputs, ship: int) -> list[At]:
     base, one = _ship(program, inputs, ship)
     slots = range(one["earliest"], one["latest"] + 1)
     own = _windows(program, base, inputs.tides, ({**one, "earliest": slot, "latest": slot} for slot in slots))
-    deepest = _windows(program, base, inputs.tides,
-                       ({**one, "earliest": slot, "latest": slot, "light": 0, "deep": DEEPEST} for slot in slots))
+    # An incoming ship sails with one draft: so what the water allows is asked of one that goes out by the same route.
+    free = {**one, "direction": "outgoing", "light": 0, "deep": DEEPEST}
+    deepest = _windows(program, base, inputs.tides, ({**free, "earliest": slot, "latest": slot} for slot in slots))
     found = []
     for slot, (sails,), (most,) in zip(slots, own, deepest, strict=True):
         why = "" if sails.kind == "from" else said_of(sails.kind, sails.said)

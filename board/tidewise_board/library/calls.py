@@ -27,10 +27,10 @@ class Movements:
 def check_columns(table: Table) -> None:
     for column in CALL_NEEDED:
         if not table.has(column):
-            raise Fault((1, column), "this column is missing")
+            raise Fault((table.head_row, column), "this column is missing")
     for column in ("tugs", "job"):
         if not table.has(column) and not (table.has(f"{column} in") and table.has(f"{column} out")):
-            raise Fault((1, column), "this column is missing")
+            raise Fault((table.head_row, column), "this column is missing")
 
 
 def movements_of_calls(table: Table, port: Port) -> Movements:

@@ -19,7 +19,7 @@ from .base import Port, read_port
 from .clock import Clock
 from .dates import DAY, day_of
 from .faults import Refused, Told, Wrong
-from .heads import cells_of
+from .heads import Row, cells_of
 from .port import Made, made_of, text_of
 from .tides import Listing, Options, listing_of, table_of
 from .waters import Change
@@ -64,7 +64,7 @@ class LogLine:
 @dataclass(frozen=True)
 class Folder:
     """A port and its day, read without a fault: the files that were read, by their paths in the folder; the program's two inputs; names,
-    calls and times; hints; and the log, the oldest line first."""
+    calls and times; hints; the log, the oldest line first; and the file of the line-up, with each ship's row of it."""
     root: str
     day: str
     sources: dict[str, bytes]
@@ -75,6 +75,8 @@ class Folder:
     calls: list[Call]
     told: list[Told]
     log: list[LogLine]
+    ships_file: str
+    rows: list[Row]
 
     @property
     def day_folder(self) -> str:
@@ -253,7 +255,7 @@ def look(root: str, day: str | None = None) -> Looked:
         return Looked(reading.told, None)
     clock = Clock(made.port.start, made.port.minutes, made.port.slots)
     return Looked(reading.told, Folder(root, clock.at(0)[:10], reading.sources, text_of(made.instance) + "\n", tides, names_of(made), clock,
-                                       calls_in(made), reading.told, log))
+                                       calls_in(made), reading.told, log, ships_name(root), made.rows))
 
 
 def read(root: str, day: str | None = None) -> Folder:

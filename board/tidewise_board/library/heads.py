@@ -35,8 +35,9 @@ class Row:
 
 
 def cells_of(text: str) -> list[list[str]]:
-    """The cells of each row of a table, with semicolons, tabs or commas between them, whichever its first line has."""
-    first = text.partition("\n")[0]
+    """The cells of each row of a table, with semicolons, tabs or commas between them, whichever its first line without # has."""
+    lines = text.split("\n", 100)
+    first = next((line for line in lines if not line.startswith(("#", '"#'))), lines[0])
     reader = csv.reader(io.StringIO(text, newline=""), delimiter=";" if ";" in first else "\t" if "\t" in first else ",")
     try:
         return [[cell.strip() for cell in row] for row in reader]
@@ -69,7 +70,11 @@ class Table:
     def __init__(self, name: str, text: str, known: tuple[list[str], list[str]]) -> None:
         """`known` has the columns of a table with a row for each movement, and of one with a row for each call."""
         self.name, self.hints = name, list[Told]()
-        written, *self.cells = cells_of(text) or [[]]
+        rows = list(enumerate(cells_of(text), 1))
+        # What stands above the head.
+        while rows and (not any(rows[0][1]) or rows[0][1][0].startswith("#") and not any(rows[0][1][1:])):
+            del rows[0]
+        (self.head_row, written), *self.cells = rows or [(1, list[str]())]
         self.heads = [column_of(head) for head in written]
         self.written = written
         columns = [column for column, _ in self.heads]
@@ -77,7 +82,7 @@ class Table:
         allowed = known[self.calls]
         for number, column in enumerate(columns):
             if not column.startswith("#") and (column not in allowed or column in columns[:number]):
-                raise Fault((1, written[number] or number + 1),
+                raise Fault((self.head_row, written[number] or number + 1),
                             "this column isn't known, or stands there twice; one that says nothing begins with #")
 
     def has(self, column: str) -> bool:
@@ -85,7 +90,7 @@ class Table:
 
     def rows(self) -> Iterator[Row]:
         """The rows that have a ship. One whose first cell begins with # says nothing."""
-        for number, cells in enumerate(self.cells, 2):
+        for number, cells in self.cells:
             if cells and cells[0].startswith("#"):
                 continue
             if any(cells[len(self.heads):]):

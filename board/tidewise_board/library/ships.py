@@ -177,5 +177,5 @@ def movements_of(table: Table) -> list[Row]:
     """The rows of a table with a row for each movement."""
     for column in NEEDED:
         if not table.has(column):
-            raise Fault((1, column), "this column is missing")
+            raise Fault((table.head_row, column), "this column is missing")
     return list(table.rows())
