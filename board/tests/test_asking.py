@@ -4,12 +4,21 @@ from __future__ import annotations
 import json
 import os
 import shutil
+import signal
+import subprocess
+import sys
+import time
 from dataclasses import dataclass
+from xml.etree import ElementTree
 
 import pytest
 from browser import EXAMPLES, PROGRAM
 from tidewise_board.command import init
 from tidewise_board.command.main import run
+from tidewise_board.core.program import Program, Text
+from tidewise_board.core.reading import timetable_of
+from tidewise_board.core.store import Store
+from tidewise_board.library.folder import read
 
 PORTS = os.path.join(os.path.dirname(init.__file__), "..", "library", "ports")
 
@@ -183,3 +192,134 @@ class TestWindows:
     def test_refused(self, tw: Tw, calls: str, words: list[str], cause: str) -> None:
         done = tw("windows", "--folder", calls, *words)
         assert (done.status, done.out, done.err) == (4, "", f"tw: {cause}\n")
+
+
+class TestWhy:
+    def test_something_fits(self, tw: Tw, port: str) -> None:
+        done = tw("why", "--folder", port)
+        assert (done.status, done.out) == (0, "Something fits: `tw plan` finds the best of it.\n")
+
+    def test_nothing_fits(self, tw: Tw, port: str) -> None:
+        # Bittern loads until the 15th, and Curlew, at the same berth after her, loads for 19 hours with the way in.
+        edit(port, "ships.csv", "Curlew,panamax,2027-03-14 06:30,West", "Curlew,panamax,2027-03-14 06:30,East")
+        edit(port, "ships.csv", "10:00,East,14:00", "10:00,East,34:00")
+        done = tw("why", "--folder", port)
+        assert done.status == 1
+        lines = done.out.splitlines()
+        assert lines[0] == "These can't be met together:"
+        assert [line[5:] for line in lines if line[:3].strip().isdigit()] == [
+            "Bittern out clears the berth 1:00 before Curlew in comes", "Bittern out sails 35:00 after Bittern in, or later",
+            "Curlew out sails 19:00 after Curlew in, or later"]
+        kept = json.loads(tw("why", "--folder", port, "--json").out)["kept"]
+        assert set(kept[0]["without"]) == {"Bittern in", "Bittern out", "Curlew in", "Curlew out"}
+
+    def test_a_ship_that_never_sails(self, tw: Tw, port: str) -> None:
+        edit(port, "ships.csv", "100,11.00,17.20", "100,17.00,17.20")
+        done = tw("why", "--folder", port)
+        assert done.status == 1
+        assert "Albatross out's own window and water: she can't sail at all: too little water: needs 1700 cm" in done.out
+
+    def test_time(self, tw: Tw, calls: str) -> None:
+        done = tw("why", "Hector", "08:30", "--folder", calls)
+        assert (done.status, done.out) == (0, "Hector can't sail at 2027-03-14 08:25: closed\n")
+        done = tw("why", "Hector", "07:40", "--folder", calls)
+        assert done.out.splitlines() == ["Hector may sail at 2027-03-14 07:40 with 16.37 m and 44,590.0 t",
+                                         "There is no plan of the day yet with which that could be compared."]
+
+    def test_against_a_plan(self, tw: Tw, calls: str) -> None:
+        folder, store = read(calls), Store(os.path.join(calls, ".tw"))
+        day, tides = store.put(folder.instance.encode()), store.put(folder.tides.encode())
+        answer, cert = Program(PROGRAM, store).make("prove", "port", Text(day, "day.json"), Text(tides, "tides.csv"), "1000", "proof")
+        assert answer.status == 0 and cert
+        slots = timetable_of(store.get(cert))
+        assert slots
+        number = store.insert("INSERT INTO day(name) VALUES (?)", folder.day)
+        run = store.insert("INSERT INTO run(day, kind, label, instance, tides, budget, program, state, cert) "
+                           "VALUES (?, 'plan', 'plan', ?, ?, 1000, '', 'done', ?)", number, day, tides, cert)
+        store.insert("INSERT INTO plan(day, number, run) VALUES (?, 1, ?)", number, run)
+        hector, iris = slots[2], slots[3]
+        done = tw("why", "Hector", folder.clock.short(hector), "--folder", calls)
+        assert done.out.splitlines()[1] == "In plan 1 nothing is in her way."
+        # In the slot of Iris, who goes the same way.
+        done = tw("why", "Hector", folder.clock.short(iris), "--folder", calls)
+        assert done.out.splitlines()[1:] == ["In plan 1 these would break:", "  Hector and Iris apart: 0:30 if Hector is first, 1:00 if Iris is"]
+        edit(calls, "ships.csv", "Iris", "Ibis")
+        done = tw("why", "Hector", folder.clock.short(iris), "--folder", calls, "--json")
+        assert (json.loads(done.out)["plan"], done.err) == (None, "The plan has other ships: `tw plan` makes one of those that are there now.\n")
+
+    @pytest.mark.parametrize("words,cause", [
+        (["Skua", "08:00"], "Skua is no ship of this day"), (["Hector"], "a time is missing: tw why SHIP TIME"),
+        (["Hector", "12"], "12 is no time, such as 14:05, 15 Mar 02:00, Mon 02:00 or 2027-03-15 02:00")])
+    def test_refused(self, tw: Tw, calls: str, words: list[str], cause: str) -> None:
+        done = tw("why", "--folder", calls, *words)
+        assert (done.status, done.out, done.err) == (4, "", f"tw: {cause}\n")
+
+
+class TestTry:
+    def test_differences(self, tw: Tw, port: str) -> None:
+        done = tw("try", "--folder", port, "fleet=5", "depth.Bar=+10", "close=08:00-10:00", "without.Curlew out", "deep.Bittern out=17")
+        assert (done.status, done.err) == (0, "")
+        title, head, *rows = done.out.splitlines()
+        assert title == "2027-03-14 as it is. Best, says an unproved build: 147,180.0 t"
+        assert head.split() == ["change", "result", "tonnes", "at", "most", "difference", "seconds"]
+        cells = [[cell.strip() for cell in row.split("  ") if cell.strip()][:-1] for row in rows]
+        assert cells[:3] == [["as it is", "best", "147,180.0"], ["5 tugs", "best", "147,180.0", "0.0"],
+                             ["Bar 10 cm deeper", "best", "148,180.0", "+1,000.0"]]
+        assert [row[0] for row in cells[3:]] == ["port closed 08:00-10:00", "without Curlew out", "Bittern out to 17 m"]
+
+    def test_json(self, tw: Tw, port: str) -> None:
+        done = tw("try", "--folder", port, "depth.bar=1410", "fleet=1", "--json")
+        answer = json.loads(done.out)
+        same, deeper, one = answer["changes"]
+        assert (same["least"], same["most"], deeper["cargo"] - same["cargo"], deeper["least"], deeper["most"]) == (0, 0, 10000, 10000, 10000)
+        assert (one["change"], one["result"], one["cargo"], one["least"]) == ("1 tug", "infeasible", None, None)
+
+    def test_picture(self, tw: Tw, port: str) -> None:
+        edit(port, "ships.csv", "Bittern,", "</svg>,")
+        done = tw("try", "--folder", port, "depth.Bar=+10", "later.</svg> out=9:00", "--svg")
+        assert done.status == 0
+        drawn = ElementTree.fromstring(done.out)
+        said = [text.text for text in drawn.iter("{http://www.w3.org/2000/svg}text")]
+        assert "Bar 10 cm deeper" in said and "+1,000.0" in said and "</svg> out 9:00 later" in said
+
+    def test_without_a_best(self, tw: Tw, port: str) -> None:
+        done = tw("try", "--folder", port, "--program", "/no/program")
+        assert (done.status, done.out) == (5, "")
+
+    @pytest.mark.parametrize("word,cause", [
+        ("tides=3", "tides=3 is no change: fleet, depth, close, later, deep, tugs, separation or without, as depth.Bar=+10"),
+        ("fleet", "fleet is no change: fleet, depth, close, later, deep, tugs, separation or without, as depth.Bar=+10"),
+        ("fleet=x", "x is no number of tugs, as 7, +1 or 4..8"), ("depth.Quay=3", "Quay is no waypoint of this day"),
+        ("close.Quay=08:00-09:00", "Quay is no waypoint or ship of this day"),
+        ("close=08:00", "08:00 isn't two times, such as 14:00-16:00 or 15 Mar 14:00 to 15 Mar 16:00"),
+        ("close=15 Mar 08:00 to 15 Mar 07:00", "15 Mar 07:00 isn't after 15 Mar 08:00"),
+        ("later.Skua=1:00", "Skua is no ship of this day"), ("later=1", "1 is no number of hours and minutes, such as 1:30"),
+        ("depth.Bar=-1500", "depth.Bar=-1500: that is below 0"), ("separation=1", "separation=1 is no time less, as -0:15")])
+    def test_refused(self, tw: Tw, port: str, word: str, cause: str) -> None:
+        done = tw("try", "--folder", port, word)
+        assert (done.status, done.out, done.err) == (4, "", f"tw: {cause}\n")
+
+    @pytest.mark.parametrize("number", [signal.SIGTERM, signal.SIGHUP])
+    def test_ended(self, tmp_path: object, port: str, number: int) -> None:
+        """However it is ended, its runs end with it."""
+        pids = os.path.join(str(tmp_path), "pids")
+        fake = os.path.join(str(tmp_path), "fake")
+        with open(fake, "w", encoding="utf-8") as file:
+            file.write(f'#!/bin/sh\n[ "$1" = prove ] || exit 0\necho $$ >> {pids}\nexec sleep 600\n')
+        os.chmod(fake, 0o755)
+        board = os.path.join(os.path.dirname(os.path.abspath(__file__)), "..")
+        with subprocess.Popen([sys.executable, "-m", "tidewise_board", "try", "--folder", port, "--program", fake, "--at-once", "2"],
+                              env={**os.environ, "PYTHONPATH": board}, stderr=subprocess.DEVNULL) as run:
+            while not os.path.exists(pids) or len(lines(pids)) < 2:
+                assert run.poll() is None
+                time.sleep(0.05)
+            run.send_signal(number)
+            assert run.wait(60) == 128 + number
+        for pid in lines(pids):
+            with pytest.raises(ProcessLookupError):
+                os.kill(int(pid), 0)
+
+
+def lines(path: str) -> list[str]:
+    with open(path, encoding="utf-8") as file:
+        return file.read().split()

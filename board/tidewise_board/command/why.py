@@ -1,0 +1,179 @@
+"""`tw why`: why nothing fits, or what keeps a ship from sailing at a time."""
+from __future__ import annotations
+
+import json
+import sqlite3
+from dataclasses import dataclass
+from typing import Any
+
+import click
+
+from ..core.facts import Port, in_words, matrix, port_of, said_of
+from ..core.pins import why_not
+from ..core.reading import clash_of, flat_of, restrictions_of, timetable_of, tonnes, windows_of
+from ..core.runs import Inputs
+from ..library.clock import Clock
+from ..library.faults import Refused
+from .common import Place, asking_options, place_of, say, say_json, warn
+from .windows import Windows, draft_of, metres, slot_of, why_not as not_there
+
+FITS, CLASHES, UNFINISHED = 0, 1, 2
+PLAN = """SELECT plan.number, run.* FROM plan JOIN run ON run.id = plan.run JOIN day ON day.id = plan.day
+          WHERE day.name = ? ORDER BY plan.number DESC LIMIT 1"""
+
+
+@dataclass(frozen=True)
+class Dated(Port):
+    """A port whose times are said with their date where it isn't that of slot 0."""
+    dates: Clock | None = None
+
+    def clock(self, slot: int) -> str:
+        return self.dates.short(slot) if self.dates else super().clock(slot)
+
+
+@click.command("why")
+@click.argument("ship", required=False)
+@click.argument("time", required=False)
+@asking_options
+def command(ship: str | None, time: str | None, folder: str, day: str | None, as_json: bool, program: str) -> int:
+    """Says why nothing fits on the day: which restrictions can't be met together, and when ships could sail without one of them.
+
+    With SHIP and TIME: the draft and the cargo with which she would sail then, or what forbids it; and which restrictions would break if the
+    other ships kept their times of the day's plan.
+
+    With --json: `fits`, `holds`, `said` and `kept`, a list of `said` and `without`; or `ship`, `time`, `sails`, `draft`, `cargo`, `why`,
+    `plan` and `broken`. A draft is in centimetres, a cargo in tenths of a tonne. Without words the status is that of `clash`: 0 where
+    something fits, 1 where nothing does, 2 where that wasn't found out.
+
+    \b
+    Example: tw why Corvo 14:05
+    """
+    place = place_of(folder, day, program)
+    if ship is None:
+        return say_clash(clash(place), as_json)
+    if time is None:
+        raise Refused("a time is missing: tw why SHIP TIME")
+    here = at_time(place, place.folder.ship_of(ship), slot_of(time, place.folder.clock))
+    if as_json:
+        say_json(here)
+    else:
+        say_time(here)
+    return 0
+
+
+def dated(place: Place, inputs: Inputs) -> Dated:
+    members: dict[str, Any] = vars(port_of(place.program, inputs.instance))
+    return Dated(**members, dates=place.folder.clock)
+
+
+def inputs_of(place: Place) -> Inputs:
+    return Inputs(place.store.put(place.folder.instance.encode()), place.store.put(place.folder.tides.encode()))
+
+
+def clash(place: Place) -> dict[str, Any]:
+    """Which restrictions can't be met together; each with slots that meet the others."""
+    inputs = inputs_of(place)
+    told = why_not(place.program, inputs, {})
+    answer: dict[str, Any] = {"fits": told["said"].startswith("met "), "holds": told["holds"], "said": told["said"], "kept": []}
+    if not told["holds"]:
+        return answer
+    port, found = dated(place, inputs), clash_of(place.store.get(told["clash"]).decode())
+    lines = restrictions_of(place.program.ask("explain", "port", *inputs.words()).output)
+    for number in found.kept:
+        without = {port.ships[ship]: port.clock(slot) for ship, slot in enumerate(found.drops.get(number, []))
+                   if slot < port.slots and concerned(ship, found.kept, lines)}
+        answer["kept"].append({"said": in_words(lines[number], port) + shut(place, inputs, lines[number]), "without": without})
+    return answer
+
+
+def concerned(ship: int, kept: list[int], lines: list[str]) -> bool:
+    """Whether one of the restrictions is on this ship."""
+    for number in kept:
+        kind, *words = lines[number].split(" ")
+        if kind != "tugs" and str(ship) in words[:1 if kind == "window" else 2]:
+            return True
+    return False
+
+
+def shut(place: Place, inputs: Inputs, line: str) -> str:
+    """Of a ship that can sail in none of her slots, why not."""
+    kind, *words = line.split(" ")
+    if kind != "window":
+        return ""
+    stretches = windows_of(place.program.ask("windows", "port", *inputs.words()).output)[int(words[0])]
+    if any(one.kind == "from" for one in stretches):
+        return ""
+    return ": she can't sail at all: " + "; ".join(dict.fromkeys(said_of(one.kind, one.said) for one in stretches))
+
+
+def say_clash(answer: dict[str, Any], as_json: bool) -> int:
+    if as_json:
+        say_json(answer)
+    elif answer["fits"]:
+        say("Something fits: `tw plan` finds the best of it.")
+    elif not answer["holds"]:
+        say(f"The program didn't find out: {answer['said']}")
+    else:
+        say("These can't be met together:")
+        for number, one in enumerate(answer["kept"], 1):
+            say(f"{number:3}. {one['said']}")
+            times = ", ".join(f"{ship} {time}" for ship, time in one["without"].items())
+            if times:
+                say(f"     without it: {times}")
+        say("Change one of them, and plan again; what isn't named here may clash too.")
+    return FITS if answer["fits"] else CLASHES if answer["holds"] else UNFINISHED
+
+
+def plan_of(place: Place) -> sqlite3.Row | None:
+    """The run of the day's last plan, with its number."""
+    return place.store.row(PLAN, place.folder.day)
+
+
+def at_time(place: Place, ship: int, slot: int) -> dict[str, Any]:
+    """What is said of a ship in a slot."""
+    inputs, clock = inputs_of(place), place.folder.clock
+    (stretch,) = Windows(place, slot).at(ship, slot)
+    sails = stretch.kind == "from"
+    flat = flat_of(place.program.ask("flatten", *inputs.words()).output)
+    answer: dict[str, Any] = {
+        "ship": place.folder.port.ships[ship], "time": clock.at(slot), "sails": sails, "draft": draft_of(stretch)[1] if sails else None,
+        "cargo": flat.values[ship][slot] if sails else None, "why": None if sails else not_there(stretch), "plan": None, "broken": None}
+    run = plan_of(place)
+    if sails and run is not None:
+        answer.update(against(place, run, ship, slot, inputs))
+    return answer
+
+
+def against(place: Place, run: sqlite3.Row, ship: int, slot: int, inputs: Inputs) -> dict[str, Any]:
+    """What would break in the day's plan. Another line-up than the plan's isn't compared."""
+    slots = timetable_of(place.store.get(run["cert"])) if run["cert"] else None
+    if slots is None:
+        return {}
+    if names_in(place, run["instance"]) != place.folder.port.ships:
+        warn("The plan has other ships: `tw plan` makes one of those that are there now.")
+        return {}
+    port = dated(place, inputs)
+    lines = restrictions_of(place.program.ask("explain", "port", *inputs.words()).output)
+    broken = matrix(place.program, inputs, slots, ship, port.slots, 0)[slot]
+    return {"plan": run["number"], "planned": None if slots[ship] >= port.slots else place.folder.clock.at(slots[ship]),
+            "broken": [in_words(lines[number], port) for number in broken]}
+
+
+def names_in(place: Place, instance: str) -> list[str]:
+    return [ship["name"] for ship in json.loads(place.store.get(instance))["ships"]]
+
+
+def say_time(here: dict[str, Any]) -> None:
+    if not here["sails"]:
+        say(f"{here['ship']} can't sail at {here['time']}: {here['why']}")
+        return
+    say(f"{here['ship']} may sail at {here['time']} with {metres(here['draft'])} m"
+        + (f" and {tonnes(here['cargo'])} t" if here["cargo"] else ""))
+    if here["plan"] is None:
+        say("There is no plan of the day yet with which that could be compared.")
+    elif not here["broken"]:
+        say(f"In plan {here['plan']} nothing is in her way.")
+    else:
+        say(f"In plan {here['plan']} these would break:")
+        for line in here["broken"]:
+            say(f"  {line}")
