@@ -10,6 +10,7 @@ import pytest
 from conftest import entered, example
 from tidewise_board.core.loading import centimetres
 from tidewise_board.core.runs import Inputs, Runs
+from tidewise_board.core.store import Store
 
 
 def day(client: Any, token: dict[str, str], *files: tuple[str, str]) -> int:
@@ -95,3 +96,39 @@ def test_a_race_answers_for_its_first_run(client: Any, runs: Runs) -> None:
     while not (now := client.get(f"/api/run/{run}/progress").json)["ended"] and time.monotonic() < end:
         time.sleep(0.05)
     assert now["ended"] and now["run"] == run and now["searches"] == 0 and now["points"]
+
+
+def test_what_is_asked_of_a_plan(client: Any, runs: Runs) -> None:
+    """Changes in the words of `tw try`; what is none is refused in words, and what was asked before isn't planned again."""
+    token = entered(client)
+    run = planned(client, token, runs, day(client, token, *example("contested.json", "day-tides.csv")))
+
+    def asked(*changes: object) -> Any:
+        return client.post(f"/api/run/{run}/whatif", json={"changes": list(changes)}, headers=token)
+
+    many = asked().json["runs"]
+    assert len(many) == 4 and asked().json["runs"] == many
+    more = asked("depth.Bar=+10", "without.Heron", "close=06:00-07:00").json["runs"]
+    assert more[0] in many and len(more) == 3
+    for number in [*many, *more]:
+        assert runs.wait(number)["state"] == "done"
+    rows = {row["label"]: row for row in client.get(f"/api/run/{run}/whatifs").json["rows"]}
+    assert rows["Bar 10 cm deeper"]["difference"] == "wins 4,058.0 t" and rows["Bar 10 cm deeper"]["seal"] == ""
+    assert rows["without Heron"]["tenths"] < 0 and rows["port closed 06:00-07:00"]["tenths"] < 0
+    for bad in ("depth.Baar=+10", "fleet", "fleet=0..900", "x=1", 5, ""):
+        assert asked(bad).status_code == 400, bad
+
+
+def test_no_ship_is_left_out_of_a_day_under_way(client: Any, runs: Runs, store: Store, contested: Inputs) -> None:
+    """Its plan has a line for each ship; another fleet is planned with what has happened."""
+    token = entered(client)
+    number = runs.begin(1, contested, "plan", "day", 20000)
+    runs.wait(number)
+    slots = runs.timetable(number) or []
+    plan = "plan 1\n" + "".join(f"k {slot}\n" if ship == 1 else f"o {slot} 0\n" for ship, slot in enumerate(slots)) + "end\n"
+    repair = runs.begin(1, Inputs(contested.instance, contested.tides, store.put(plan.encode())), "repair", "repair", 20000)
+    assert runs.wait(repair)["verdict"] == "optimal 457229.0 moved 0"
+    said = client.post(f"/api/run/{repair}/whatif", json={"changes": ["without.Heron"]}, headers=token)
+    assert said.status_code == 400 and "no ship can be left out" in said.json["error"]
+    (fleet,) = client.post(f"/api/run/{repair}/whatif", json={"changes": ["fleet=+1"]}, headers=token).json["runs"]
+    assert runs.wait(fleet)["plan"] == runs.get(repair)["plan"] and runs.get(fleet)["verdict"].startswith("optimal ")

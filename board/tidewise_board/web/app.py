@@ -43,7 +43,7 @@ def whole(value: object, low: int, high: int) -> int:
 
 
 def create(store: Store, program: Program, runs: Runs, key: str, port: int) -> Flask:
-    from . import audit, berths, compare, day, names, owner, plan, publish, underway, windows
+    from . import audit, berths, compare, day, names, owner, plan, publish, underway, whatifs, windows
     race.take_up(runs)
     app = Flask(__name__)
     app.extensions["board"] = Board(store, program, runs)
@@ -51,7 +51,7 @@ def create(store: Store, program: Program, runs: Runs, key: str, port: int) -> F
     app.jinja_env.trim_blocks = app.jinja_env.lstrip_blocks = True
     app.jinja_env.filters["tonnes"] = tonnes
     guard(app, key, port)
-    for part in (day, plan, berths, windows, compare, underway, publish, audit, owner, names):
+    for part in (day, plan, whatifs, berths, windows, compare, underway, publish, audit, owner, names):
         app.register_blueprint(part.pages)
 
     @app.context_processor

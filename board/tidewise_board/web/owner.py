@@ -5,7 +5,7 @@ from typing import Any
 
 from flask import Blueprint, render_template
 
-from .plan import whatifs
+from .whatifs import listed
 from ..core.shown import root_of
 from .app import board
 
@@ -29,5 +29,5 @@ def days() -> Any:
         if said is None or said.cargo is None:
             continue
         rows.append({"day": day["id"], "name": day["name"], "cargo": said.cargo, "bound": said.bound, "word": said.word,
-                     "whatifs": whatifs(root_of(here.runs, run)["id"])["rows"]})
+                     "whatifs": listed(root_of(here.runs, run)["id"])["rows"]})
     return {"rows": rows, "proved": here.program.proved}
