@@ -79,7 +79,8 @@ def test_a_published_plan(client: Any, store: Store, runs: Runs, contested: Inpu
     with pytest.raises(Exception, match="never changes"), store.change() as db:
         db.execute("UPDATE plan SET bundle = NULL WHERE id = ?", (plan,))
     said = client.post("/api/audit", data={"bundle": (io.BytesIO(data), "b.zip")}, headers=token).json
-    assert said["sound"] and said["agrees"] and said["second"] == said["line"] and said["same_picture"] and said["known"]
+    assert said["sound"] and said["agrees"] and said["second"] == said["line"] and said["known"] == ["plan 1 of contested"]
+    assert [(part["name"], part["good"]) for part in said["parts"]] == [("picture.svg", True), ("table.csv", True)]
     files = {name: value for name, value in bundle.files.items() if name != "SHA256SUMS"}
     # Another tide: the sums are those of the files, and the certificate says nothing of them.
     files["tides.csv"] = files["tides.csv"].replace(b"424", b"414")

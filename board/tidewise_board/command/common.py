@@ -108,10 +108,16 @@ def say_rows(rows: list[list[str]], right: frozenset[int] = frozenset()) -> None
         click.echo("  ".join(cells).rstrip())
 
 
+def near(path: str) -> str:
+    """A path as one would type it here."""
+    short = os.path.relpath(path)
+    return path if short.startswith("..") else short
+
+
 def terminal() -> bool:
     """Whether somebody reads standard error as it is written."""
     return sys.stderr.isatty()
 
 
-__all__ = ["DAY", "FOLDER", "INSIDE", "JSON", "PROGRAM", "Busy", "Failed", "Place", "alone", "asking_options", "place_of", "port_options", "program_of", "say", "say_json",
-           "say_rows", "store_of", "terminal", "warn"]
+__all__ = ["DAY", "FOLDER", "INSIDE", "JSON", "PROGRAM", "Busy", "Failed", "Place", "alone", "asking_options", "near", "place_of", "port_options",
+           "program_of", "say", "say_json", "say_rows", "store_of", "terminal", "warn"]

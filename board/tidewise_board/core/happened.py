@@ -8,6 +8,8 @@ from typing import Any
 # The greatest slot of any port, and the most tugs of a fleet.
 MOST_SLOT = 2047
 MOST_TUGS = 1000
+# The greatest draft of any ship, in centimetres.
+MOST_DEEP = 10000
 Clock = Callable[[int], str]
 
 
@@ -73,8 +75,18 @@ class Closed:
         return f"{self.where or 'the port'} closed from {clock(self.first)} to {clock(self.last)}"
 
 
-Event = Sailed | NotBefore | Stays | TugsOut | TugsBack | Closed
-KINDS: dict[str, type[Event]] = {"sailed": Sailed, "not before": NotBefore, "stays": Stays, "tugs out": TugsOut, "tugs back": TugsBack,
+@dataclass(frozen=True)
+class Surveyed:
+    """The greatest draft to which the ship can load is this, in centimetres, as a survey of her drafts found."""
+    ship: str
+    deep: int
+
+    def said(self, clock: Clock) -> str:
+        return f"{self.ship} loads to {self.deep / 100:.2f} m at most"
+
+
+Event = Sailed | NotBefore | Stays | TugsOut | TugsBack | Closed | Surveyed
+KINDS: dict[str, type[Event]] = {"sailed": Sailed, "not before": NotBefore, "stays": Stays, "surveyed": Surveyed, "tugs out": TugsOut, "tugs back": TugsBack,
                                  "closed": Closed}
 SHIPS = (Sailed, NotBefore, Stays)
 
@@ -106,7 +118,7 @@ def event_of(data: object) -> Event:
 
 
 def whole(name: str, value: object) -> None:
-    low, high = (1, MOST_TUGS) if name == "count" else (0, MOST_SLOT + 1)
+    low, high = {"count": (1, MOST_TUGS), "deep": (0, MOST_DEEP)}.get(name, (0, MOST_SLOT + 1))
     if not isinstance(value, int) or isinstance(value, bool) or not low <= value <= high:
         raise ValueError(f"{name} has to be a whole number from {low} to {high}")
 

@@ -5,6 +5,7 @@ import csv
 import io
 import json
 from dataclasses import dataclass
+from datetime import datetime
 from typing import Any
 
 from .changes import depth
@@ -12,6 +13,7 @@ from .facts import Port
 
 # A cell that begins so would be a formula in a spreadsheet.
 FORMULA = ("=", "+", "-", "@", "\t", "\r")
+DATE = "%Y-%m-%d %H:%M"
 SENSE = {"outgoing": "out", "incoming": "in"}
 
 
@@ -48,12 +50,20 @@ def sailings(port: Port, instance: bytes, table: list[dict[str, str]]) -> list[S
     for row in table:
         ship = ships[int(row["ship"])]
         slot = int(row["slot"]) if row["slot"] else None
-        passes = [(name, port.clock_of(int(row[name]))) for name in port.waypoints if slot is not None and row.get(name)]
+        passes = sorted((minute_of(row[name], port), name) for name in port.waypoints if slot is not None and row.get(name))
         found.append(Sailing(plain(row["name"]), SENSE.get(row["direction"], row["direction"]), slot, "stays" if slot is None else port.clock(slot),
-                             sorted(passes, key=lambda one: int(row[one[0]])), depth(row), metres(row.get("under keel cm", "")),
+                             [(name, port.clock_of(minute)) for minute, name in passes], depth(row), metres(row.get("under keel cm", "")),
                              plain(row.get("limiting waypoint", "")), int(ship["tugs"]), span(int(ship["job"]) * port.minutes),
                              row.get("cargo t", "")))
     return sorted(found, key=lambda one: (one.slot is None, one.slot or 0, one.name))
+
+
+def minute_of(text: str, port: Port) -> int:
+    """The minute from slot 0 that the table says: as such, or as a date of a port with a start."""
+    if not port.start:
+        return int(text)
+    begin, at = (datetime.strptime(one.replace("T", " "), DATE) for one in (port.start, text))
+    return round((at - begin).total_seconds()) // 60
 
 
 def plain(name: str) -> str:

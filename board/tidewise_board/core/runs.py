@@ -67,9 +67,10 @@ def start_of(pid: int) -> str | None:
 
 
 class Runs:
-    """Begins, follows and ends runs; a few at once."""
+    """Begins, follows and ends runs; a few at once. `second` says whether the second checker follows each of them. Who only reads what is
+    kept isn't the `own`er of what runs, and takes nothing up."""
 
-    def __init__(self, store: Store, program: Program, at_once: int = 2) -> None:
+    def __init__(self, store: Store, program: Program, at_once: int = 2, second: bool = True, own: bool = True) -> None:
         self.store, self.program = store, program
         self.pool = ThreadPoolExecutor(at_once, "run")
         # What-ifs have a queue of their own, so that no pin waits for them.
@@ -83,7 +84,9 @@ class Runs:
         self.races: set[int] = set()
         self.ending = False
         self.lock = threading.Lock()
-        self._take_up()
+        self.second = second
+        if own:
+            self._take_up()
 
     def _take_up(self) -> None:
         """What was under way when the board ended: what was written is kept and verified."""
@@ -96,7 +99,7 @@ class Runs:
                 self._close(run["id"], "interrupted", json.loads(run["series"]))
             except (Failed, Unread, Damaged, OSError) as fault:
                 self._set(run["id"], state="failed", fault=f"{type(fault).__name__}: {fault}")
-        for run in self.store.rows("SELECT id FROM run WHERE verdict IS NOT NULL AND second IS NULL AND plan IS NULL"):
+        for run in self.store.rows("SELECT id FROM run WHERE verdict IS NOT NULL AND second IS NULL AND plan IS NULL") if self.second else []:
             self.seconds.submit(self._second, run["id"])
 
     def get(self, number: int) -> sqlite3.Row:
@@ -201,7 +204,7 @@ class Runs:
                   ended=time.time(), pid=None, folder=None)
         if folder:
             shutil.rmtree(folder, ignore_errors=True)
-        if verdict and cert and not run["plan"] and not self.ending and state != "interrupted":
+        if self.second and verdict and cert and not run["plan"] and not self.ending and state != "interrupted":
             self.seconds.submit(self._second, number)
 
     def line_of(self, run: sqlite3.Row, cert: str) -> str:

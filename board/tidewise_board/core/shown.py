@@ -7,6 +7,7 @@ import json
 import sqlite3
 from typing import Any
 
+from .audited import Audited
 from .facts import Port, clocked, port_of
 from ..library import whatif
 from .program import Failed, Program, Text, Word
@@ -58,6 +59,23 @@ def meaning(said: Verdict, pins: dict[str, int], repair: bool) -> str:
     held = "with these ships held" if pins else "with what has happened" if repair else ""
     return f"{text}{', ' + held if held else ''}" + (", and none that carries as much moves fewer ships" if said.moved is not None
                                                      and said.word == "optimal" else "")
+
+
+def audit_words(found: Audited, proved: bool) -> tuple[str, str, str]:
+    """What an auditor's page says of a bundle: the seal, the headline and its meaning. Nothing is said of a bundle in which anything
+    isn't what it claims to be."""
+    if found.said is None:
+        return "nothing", "Refused", "the certificate shows nothing of these files"
+    faults = [part.said for part in found.parts if part.good is False]
+    if not found.bundle.sound:
+        faults.insert(0, "its sums aren't those of its files")
+    if not found.agrees:
+        faults.insert(0, f"it claims {found.bundle.said() or 'nothing'}, and verify says {found.line}")
+    if not found.repair and not found.second.startswith(SILENT) and found.second != found.line:
+        faults.insert(0, f"verify says {found.line}, but the second checker {found.second}")
+    if faults:
+        return "nothing", "Not as it claims", "; ".join(faults)
+    return seal(proved, found.said), headline(found.said, proved), meaning(found.said, {}, found.repair)
 
 
 def root_of(runs: Runs, run: sqlite3.Row) -> sqlite3.Row:

@@ -7,7 +7,7 @@ from dataclasses import dataclass, replace
 
 from ..library import port as port_script
 from .facts import Port, in_words, watched
-from .happened import SHIPS, Closed, Event, NotBefore, Sailed, Stays, TugsBack, TugsOut, most_out, out_in, tugs
+from .happened import SHIPS, Closed, Event, NotBefore, Sailed, Stays, Surveyed, TugsBack, TugsOut, most_out, out_in, tugs
 from .program import Answer, Draft, Program, Text, Word
 from .reading import broken_of, restrictions_of
 from .runs import Inputs
@@ -76,10 +76,11 @@ class Watch:
         return State(table, lines + ([f"w {out}"] if out else []), firsts, sailed, stays - sailed)
 
     def instance(self) -> str:
-        """The day's instance with what was closed and who stays; the very same bytes where there is neither."""
+        """The day's instance with what was closed, who stays and what was surveyed; the very same bytes where there is none of it."""
         closings = [one for one in self.events if isinstance(one, Closed)]
+        surveys = [one for one in self.events if isinstance(one, Surveyed) and one.ship in self.ships]
         stays = self.state().stays
-        if not closings and not stays:
+        if not closings and not stays and not surveys:
             return self.inputs.instance
         made = third(json.loads(self.program.store.get(self.inputs.instance)))
         for one in closings:
@@ -88,6 +89,8 @@ class Watch:
                 place["closed"] += [] if item in place["closed"] else [item]
         for ship in stays:
             made["ships"][ship]["may_stay"] = True
+        for survey in surveys:
+            made["ships"][self.ships[survey.ship]]["deep"] = survey.deep
         return self.program.store.put((str(port_script.text_of(made)) + "\n").encode())
 
     def day(self) -> list[Word]:
@@ -107,7 +110,7 @@ class Watch:
 
     def refusal(self, event: Event) -> str | None:
         """Why an event can't be, in the program's own reasons; None where it can."""
-        if isinstance(event, SHIPS) and event.ship not in self.ships:
+        if isinstance(event, (*SHIPS, Surveyed)) and event.ship not in self.ships:
             return f"there is no ship {event.ship}"
         if isinstance(event, Closed) and event.where is not None and event.where not in self.port.waypoints:
             return f"there is no waypoint {event.where}"

@@ -29,7 +29,10 @@ def board() -> Board:
 
 def said() -> dict[str, Any]:
     """The JSON object of a request."""
-    data = request.get_json(silent=True)
+    try:
+        data = request.get_json(silent=True)
+    except RecursionError:
+        abort(400)
     if not isinstance(data, dict):
         abort(400)
     return data
@@ -43,7 +46,7 @@ def whole(value: object, low: int, high: int) -> int:
 
 
 def create(store: Store, program: Program, runs: Runs, key: str, port: int) -> Flask:
-    from . import audit, berths, compare, day, names, owner, plan, publish, underway, whatifs, windows
+    from . import audit, berths, compare, day, names, owner, plan, publish, tomorrow, underway, wall, whatifs, windows
     race.take_up(runs)
     app = Flask(__name__)
     app.extensions["board"] = Board(store, program, runs)
@@ -51,7 +54,7 @@ def create(store: Store, program: Program, runs: Runs, key: str, port: int) -> F
     app.jinja_env.trim_blocks = app.jinja_env.lstrip_blocks = True
     app.jinja_env.filters["tonnes"] = tonnes
     guard(app, key, port)
-    for part in (day, plan, whatifs, berths, windows, compare, underway, publish, audit, owner, names):
+    for part in (day, plan, whatifs, berths, windows, compare, underway, publish, audit, owner, names, tomorrow, wall):
         app.register_blueprint(part.pages)
 
     @app.context_processor

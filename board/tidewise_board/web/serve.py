@@ -9,9 +9,10 @@ import sys
 
 import waitress
 
-from .guard import MOST_REQUEST, key_of
+from .guard import MOST_REQUEST, key_of, reader_of
 from ..core.program import Program
 from ..core.runs import Runs
+from ..core.shown import build_words
 from ..core.store import Store
 from .app import create, default_folder
 
@@ -43,8 +44,9 @@ def serve(given: argparse.Namespace, store: Store) -> None:
     app = create(store, program, runs, key, given.port)
     server = waitress.create_server(app, host="127.0.0.1", port=given.port, threads=8, max_request_body_size=MOST_REQUEST, ident=None,
                                     clear_untrusted_proxy_headers=True)
-    print(f"{program.version}, {'proved' if program.proved else 'an unproved build'}, {program.digest}")
+    print(f"{build_words(program)}, {program.digest}")
     print(f"http://127.0.0.1:{given.port}/enter?key={key}", flush=True)
+    print(f"to look on only: http://127.0.0.1:{given.port}/enter?key={reader_of(key)}", flush=True)
     signal.signal(signal.SIGTERM, lambda *_: sys.exit(0))
     try:
         server.run()

@@ -23,17 +23,19 @@ LONGEST = 200
 
 @pages.post("/api/run/<int:number>/whatif")
 def ask(number: int) -> Any:
-    """Begins a run for each variant that wasn't asked for before; without changes, of the usual ones."""
-    here = board()
-    run = root_of(here.runs, run_of(number))
-    instance = json.loads(here.store.get(run["instance"]))
+    return {"runs": begin(root_of(board().runs, run_of(number)), words_of(said().get("changes", [])))}
+
+
+def begin(run: sqlite3.Row, words: list[str]) -> list[int]:
+    """Begins a run for each variant of a run's day that wasn't asked for before; without words, of the usual ones."""
+    instance = json.loads(board().store.get(run["instance"]))
     try:
-        found = variants(instance, words_of(said().get("changes", [])))
+        found = variants(instance, words)
     except Refused as cause:
         raise ValueError(f"{cause}") from None
     if run["plan"] and any(len(json.loads(changed)["ships"]) != len(instance["ships"]) for _, changed in found):
         raise ValueError("on a day under way no ship can be left out: its plan has a line for each")
-    return {"runs": [begun(run, label, changed) for label, changed in found]}
+    return [begun(run, label, changed) for label, changed in found]
 
 
 def words_of(asked: object) -> list[str]:
