@@ -255,8 +255,8 @@ class TestTry:
         assert "Bar 10 cm deeper" in said and "+1,000.0" in said and "</svg> out 9:00 later" in said
 
     def test_without_a_best(self, tw: Tw, port: str) -> None:
-        done = tw("try", "--folder", port, "--program", "/no/program")
-        assert (done.status, done.out) == (6, "")
+        done = tw("try", "--in", port, "--program", "/no/program")
+        assert (done.status, done.out) == (5, "")
 
     @pytest.mark.parametrize("word,cause", [
         ("tides=3", "tides=3 is no change: fleet, depth, close, later, deep, tugs, separation or without, as depth.Bar=+10"),
