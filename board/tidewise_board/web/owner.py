@@ -1,13 +1,25 @@
-"""The owner: what all days carried, and what a tug or ten centimetres would have been worth."""
+"""The owner: what all days carried, what a tug, ten centimetres or an hour was worth, and plans by hand beside those of the program."""
 from __future__ import annotations
 
+import csv
+import io
+import sqlite3
+from collections.abc import Iterator
 from typing import Any
 
-from flask import Blueprint, render_template
+from flask import Blueprint, Response, abort, render_template
 
-from .plan import whatifs
-from ..core.shown import root_of
-from .app import board
+from .app import board, said
+from .day import day_of
+from .names import noted, who
+from .plan import begin_whatifs, whatifs
+from ..core.changes import signed
+from ..core.facts import Port, port_of
+from ..core.hand import ByHand, judged, minute_of, slots_of
+from ..core.issue import cell
+from ..core.reading import tonnes
+from ..core.runs import Inputs, flat_problem
+from ..core.shown import build_words, seal, shown
 
 pages = Blueprint("owner", __name__)
 
@@ -17,17 +29,114 @@ def owner() -> str:
     return render_template("owner.html", page="owner")
 
 
+def planned_days() -> Iterator[tuple[sqlite3.Row, sqlite3.Row]]:
+    """Each day with its last plan of unchanged wishes, that is without pins and events."""
+    here = board()
+    for day in here.store.rows("SELECT * FROM day ORDER BY id"):
+        run = run_of_day(day["id"])
+        if run is not None:
+            yield day, run
+
+
+def run_of_day(day: int) -> sqlite3.Row | None:
+    return board().store.row("SELECT * FROM run WHERE day = ? AND kind = 'plan' AND verdict IS NOT NULL ORDER BY id DESC", day)
+
+
 @pages.get("/api/owner")
 def days() -> Any:
-    """For each day its first proved plan, and the proved differences of its what-ifs."""
-    here, rows = board(), []
-    for day in here.store.rows("SELECT * FROM day ORDER BY id"):
-        run = here.store.row("SELECT * FROM run WHERE day = ? AND kind = 'plan' AND verdict IS NOT NULL ORDER BY id DESC", day["id"])
-        if run is None:
-            continue
-        said = here.runs.verdict(run["id"])
-        if said is None or said.cargo is None:
-            continue
-        rows.append({"day": day["id"], "name": day["name"], "cargo": said.cargo, "bound": said.bound, "word": said.word,
-                     "whatifs": whatifs(root_of(here.runs, run)["id"])["rows"]})
-    return {"rows": rows, "proved": here.program.proved}
+    """For each day its last plan, what was asked of its variants, and its last plan by hand."""
+    here = board()
+    return {"rows": [row for row in (row_of(day, run) for day, run in planned_days()) if row is not None], "build": build_words(here.program)}
+
+
+def row_of(day: sqlite3.Row, run: sqlite3.Row) -> dict[str, Any] | None:
+    here = board()
+    verdict = here.runs.verdict(run["id"])
+    plan = shown(here.runs, run["id"])
+    if verdict is None or verdict.cargo is None or plan["cargo"] is None:
+        return None
+    hand = last_hand(day["id"], run)
+    return {"day": day["id"], "name": day["name"], "made": day["made"], "run": run["id"], "cargo": plan["cargo"], "bound": plan["bound"],
+            "headline": plan["headline"], "seal": seal(here.program.proved, verdict), "whatifs": whatifs(run["id"])["rows"],
+            "hand": None if hand is None else {"cargo": hand.cargo, "permitted": hand.permitted, "breaks": len(hand.broken),
+                                               "more": signed(plan["cargo"] - hand.cargo)}}
+
+
+def last_hand(day: int, run: sqlite3.Row) -> ByHand | None:
+    """The last plan by hand of a day, judged over the inputs of this run; None where there is none, or it is one of another line-up."""
+    here = board()
+    kept = here.store.row("SELECT text FROM hand WHERE day = ? ORDER BY id DESC", day)
+    if kept is None:
+        return None
+    port = port_of(here.program, run["instance"])
+    try:
+        return judged(here.program, Inputs(run["instance"], run["tides"]), port, slots_of(here.store.get(kept["text"]).decode(), port))
+    except ValueError:
+        return None
+
+
+@pages.post("/api/owner/whatif")
+def everywhere() -> Any:
+    """Asks the same of every day: a tug more and less, ten centimetres more, and the port closed between two times of the clock."""
+    here, asked, begun = board(), said(), []
+    times = asked.get("from"), asked.get("to")
+    for _, run in planned_days():
+        port = port_of(here.program, run["instance"])
+        begun += begin_whatifs(here, run, closed_of(port, *times) if all(times) else None)
+    return {"runs": begun}
+
+
+def closed_of(port: Port, start: object, end: object) -> tuple[int, int] | None:
+    """The slots between two times of the port's clock; `ValueError` where they are none."""
+    first, last = (minute_of(str(text), port) for text in (start, end))
+    if first is None or last is None:
+        raise ValueError("a time is written as 05:00")
+    if not 0 <= first < last or first >= port.slots * port.minutes:
+        return None
+    return first // port.minutes, min(port.slots, -(-last // port.minutes)) - 1
+
+
+@pages.post("/api/owner/hand/<int:number>")
+def by_hand(number: int) -> Any:
+    """Judges and prices a plan that was made by hand, beside the program's plan of the same day."""
+    here, day, run = board(), day_of(number), run_of_day(number)
+    if run is None:
+        abort(404)
+    text = str(said().get("text", ""))
+    port, inputs = port_of(here.program, run["instance"]), Inputs(run["instance"], run["tides"])
+    hand = judged(here.program, inputs, port, slots_of(text, port))
+    with here.store.change():
+        here.store.insert("INSERT INTO hand(day, who, text) VALUES (?, ?, ?)", number, who(), here.store.put(text.encode()))
+        noted(number, "put in a plan by hand")
+    plan, values = shown(here.runs, run["id"]), flat_problem(here.program, inputs)
+    own = plan["timetable"] or []
+    rows = [{"ship": name, "hand": sails(port, one), "program": sails(port, other), "hand_cargo": tonnes(values.cargo_of(ship, one)),
+             "program_cargo": tonnes(values.cargo_of(ship, other))} for ship, (name, one, other) in enumerate(zip(port.ships, hand.timetable, own))]
+    return {"day": day["name"], "broken": hand.broken, "permitted": hand.permitted, "cargo": tonnes(hand.cargo), "headline": plan["headline"],
+            "seal": plan["seal"], "more": signed(plan["cargo"] - hand.cargo), "rows": rows}
+
+
+def sails(port: Port, slot: int) -> str:
+    return port.clock(slot) if slot < port.slots else "stays"
+
+
+@pages.get("/owner.csv")
+def table() -> Response:
+    """A row for each day, and one for each variant of it; cargo in tonnes."""
+    out = io.StringIO(newline="")
+    writer = csv.writer(out, lineterminator="\n")
+    writer.writerow(["day", "made", "variant", "cargo t", "at most t", "difference t", "said"])
+    for row in days()["rows"]:
+        name, hand = cell(row["name"]), row["hand"]
+        writer.writerow([name, row["made"], "", plain(row["cargo"]), plain(row["bound"]), "", row["headline"]])
+        if hand is not None:
+            writer.writerow([name, row["made"], "by hand", plain(hand["cargo"]), "", plain(hand["cargo"] - row["cargo"]),
+                             "permitted" if hand["permitted"] else f"breaks {hand['breaks']} rules"])
+        for one in row["whatifs"]:
+            writer.writerow([name, row["made"], cell(one["label"]), "", "", plain(one["tenths"]), one["difference"] or one["word"]])
+    return Response(out.getvalue(), mimetype="text/csv", headers={"Content-Disposition": 'attachment; filename="days.csv"'})
+
+
+def plain(tenths: int | None) -> str:
+    """Tonnes with one decimal, as a spreadsheet reads them."""
+    return "" if tenths is None else f"{'-' if tenths < 0 else ''}{abs(tenths) // 10}.{abs(tenths) % 10}"

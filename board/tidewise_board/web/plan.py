@@ -14,7 +14,7 @@ from ..core.program import Text
 from ..core.runs import ENDED, Inputs, inputs_of
 from ..core.shown import picture_words, root_of, seal, shown, worth
 from ..core.variants import variants
-from .app import board, said, whole
+from .app import Board, board, said, whole
 from ..core.wishes import wishes_of
 
 pages = Blueprint("plans", __name__)
@@ -133,18 +133,21 @@ def why(number: int) -> Any:
 def whatif(number: int) -> Any:
     """Plans variants of the day of this plan, each with its own proof."""
     here, asked = board(), said()
-    run = root_of(here.runs, run_of(number))
-    instance = json.loads(here.store.get(run["instance"]))
     closed = asked.get("closed")
     if closed is not None:
         closed = (whole(closed[0], 0, 511), whole(closed[1], 0, 511))
-    begun = []
+    return {"runs": begin_whatifs(here, root_of(here.runs, run_of(number)), closed)}
+
+
+def begin_whatifs(here: Board, run: sqlite3.Row, closed: tuple[int, int] | None) -> list[int]:
+    """Begins the variants of a run's day that weren't begun before."""
+    instance, begun = json.loads(here.store.get(run["instance"])), []
     for label, changed in variants(instance, closed, port_of(here.program, run["instance"]).clock):
         inputs = Inputs(here.store.put(changed.encode()), run["tides"], run["plan"])
         again = here.store.row("SELECT id FROM run WHERE kind = 'whatif' AND base = ? AND instance = ? AND program = ?", run["id"],
                                inputs.instance, here.program.digest)
         begun.append(again["id"] if again else here.runs.begin(run["day"], inputs, "whatif", label, WHAT_IF_BUDGET, None, run["id"]))
-    return {"runs": begun}
+    return begun
 
 
 @pages.get("/api/run/<int:number>/whatifs")
