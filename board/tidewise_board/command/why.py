@@ -14,7 +14,7 @@ from ..core.reading import clash_of, flat_of, restrictions_of, timetable_of, ton
 from ..core.runs import Inputs
 from ..library.clock import Clock
 from ..library.faults import Refused
-from .common import Place, asking_options, place_of, say, say_json, warn
+from .common import Place, asking_options, place_of, say, say_json, ship_names, warn
 from .windows import Windows, draft_of, metres, slot_of, why_not as not_there
 
 FITS, CLASHES, UNFINISHED = 0, 1, 2
@@ -32,7 +32,7 @@ class Dated(Port):
 
 
 @click.command("why")
-@click.argument("ship", required=False)
+@click.argument("ship", required=False, shell_complete=ship_names)
 @click.argument("time", required=False)
 @asking_options
 def command(ship: str | None, time: str | None, folder: str, day: str | None, as_json: bool, program: str) -> int:

@@ -15,14 +15,14 @@ from ..core.reading import Stretch, windows_of
 from ..core.runs import Inputs
 from ..library.clock import Clock
 from ..library.faults import Refused
-from .common import Place, asking_options, place_of, say, say_json
+from .common import Place, asking_options, place_of, say, say_json, ship_names
 
 # A stretch outside a ship's own window, of which the program says nothing.
 OWN = "own"
 
 
 @click.command("windows")
-@click.argument("ships", nargs=-1, metavar="[SHIP ..]")
+@click.argument("ships", nargs=-1, metavar="[SHIP ..]", shell_complete=ship_names)
 @click.option("--draft", metavar="METRES", help="When each may sail with this draft, as 17.80.")
 @click.option("--at", "time", metavar="TIME", help="With which draft each may sail at this time, as 14:05 or 15 Mar 02:00.")
 @asking_options
