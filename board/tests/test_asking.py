@@ -234,6 +234,19 @@ class TestWhy:
         done = tw("why", "Hector", folder.clock.short(iris), "--in", calls, "--json")
         assert (json.loads(done.out)["plan"], done.err) == (None, "The plan has other ships: `tw plan` makes one of those that are there now.\n")
 
+    def test_on_a_day_under_way(self, tw: Tw, calls: str) -> None:
+        assert tw("plan", calls).status == 0
+        for sentence in ("Iris sailed at 07:40", "close Bar 14:00 to 16:00"):
+            assert tw("log", "--in", calls, "--now", "07:45", sentence).status == 0
+        assert tw("replan", calls, "--now", "07:45").status == 0 and tw("accept", calls).status == 0
+        assert tw("why", "Iris", "10:40", "--in", calls).out == "Iris can't sail at 2027-03-14 10:40: she has sailed at 07:40\n"
+        assert tw("why", "Hector", "07:10", "--in", calls).out == "Hector can't sail at 2027-03-14 07:10: she can't sail before 07:55\n"
+        # At the bar an hour later, when it is closed since.
+        assert tw("why", "Hector", "13:25", "--in", calls).out == "Hector can't sail at 2027-03-14 13:25: closed\n"
+        edit(calls, "port.json", '"depth":1400', '"depth":1410')
+        done = tw("why", "Hector", "13:25", "--in", calls)
+        assert done.err == "The files were changed since plan 2; this is said of the plan's.\n"
+
     @pytest.mark.parametrize("words,cause", [
         (["Skua", "08:00"], "Skua is no ship of this day"), (["Hector"], "a time is missing: tw why SHIP TIME"),
         (["Hector", "12"], "12 is no time, such as 14:05, 15 Mar 02:00, Mon 02:00 or 2027-03-15 02:00")])
