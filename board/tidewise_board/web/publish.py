@@ -11,17 +11,17 @@ from .app import board
 from .berths import named as berths_of
 from .berths import said as stay_words
 from .day import day_of
-from .names import noted
-from .underway import plan_of, plans_of
-from ..core.bundle import calendar, packed, readme, words_of
+from .names import who
+from .underway import plan_of
+from ..core import plans
+from ..core.bundle import calendar
 from ..core.changes import Change, changes
 from ..core.deeds import deeds_of
 from ..core.facts import Port, port_of
 from ..core.issue import Head, Sailing, sailings, sheet_csv, text_for_pilots
 from ..core.lanes import lanes
-from ..core.program import Text
 from ..core.runs import inputs_of
-from ..core.shown import build_words, picture_words, shown, table_of
+from ..core.shown import build_words, shown, table_of
 
 pages = Blueprint("publish", __name__)
 
@@ -76,50 +76,15 @@ def head_of(issue: Issue, run: dict[str, Any]) -> Head:
 @pages.get("/day/<int:number>/publish")
 def publish(number: int) -> str:
     here = board()
-    plans = [{"plan": plan, "run": shown(here.runs, plan["run"]), "issue": issue_of(plan),
-              "dated": port_of(here.program, here.runs.get(plan["run"])["instance"]).start is not None} for plan in reversed(plans_of(number))]
-    return render_template("publish.html", day=day_of(number), plans=plans, page="publish", deeds=deeds_of(here.store, number, 20))
+    rows = [{"plan": plan, "run": shown(here.runs, plan["run"]), "issue": issue_of(plan),
+              "dated": port_of(here.program, here.runs.get(plan["run"])["instance"]).start is not None} for plan in reversed(plans.plans_of(here.store, number))]
+    return render_template("publish.html", day=day_of(number), plans=rows, page="publish", deeds=deeds_of(here.store, number, 20))
 
 
 @pages.post("/api/plan/<int:number>/freeze")
 def freeze(number: int) -> Any:
     """Verifies the very bytes once more, and packs them."""
-    here, plan = board(), plan_of(number)
-    if plan["frozen"]:
-        return {"bundle": plan["bundle"]}
-    said = here.runs.verdict(plan["run"], True)
-    shown_now = shown(here.runs, plan["run"])
-    if said is None or said.cargo is None or shown_now["timetable"] is None:
-        raise ValueError(shown_now["fault"] or "verify doesn't take this certificate")
-    issue = issue_of(plan)
-    bundle = here.store.put(packed(files_of(plan)))
-    with here.store.change() as db:
-        db.execute("UPDATE plan SET bundle = ?, frozen = datetime('now') WHERE id = ? AND frozen IS NULL", (bundle, number))
-        noted(plan["day"], f"issued plan {plan['number']} as issue {issue.number}")
-    return {"bundle": bundle}
-
-
-def files_of(plan: sqlite3.Row) -> dict[str, bytes]:
-    """The files of a bundle but for its sums."""
-    here = board()
-    run = here.runs.get(plan["run"])
-    line = here.runs.line_of(run, run["cert"])
-    inputs, port = inputs_of(run), port_of(here.program, run["instance"])
-    files = {"day.json": here.store.get(run["instance"]), "tides.csv": here.store.get(run["tides"]), "certificate": here.store.get(run["cert"]),
-             "picture.svg": here.program.ask(*picture_words(run)).output.encode(),
-             "table.csv": here.program.ask("table", *inputs.form(), *inputs.words(), Text(run["cert"], "cert")).output.encode()}
-    if run["plan"]:
-        files["plan.txt"] = here.store.get(run["plan"])
-    ics = calendar(port, table_of(here.runs, run), line, run["cert"])
-    if ics is not None:
-        files["sailings.ics"] = ics.encode()
-    source = here.store.row("SELECT source, instance FROM input WHERE id = ?", run["input"]) if run["input"] else None
-    # A source makes the day's own instance: where something was closed since, this is another one.
-    if source and source["instance"] == run["instance"]:
-        files["source.json"] = here.store.get(source["source"])
-    title = f"Plan {plan['number']} of {day_of(plan['day'])['name']}, {plan['made']}"
-    files["README.txt"] = readme(title, line, here.program.version, here.program.digest, here.program.proved, words_of(files)).encode()
-    return files
+    return {"bundle": plans.publish(board().runs, plan_of(number), who())["bundle"]}
 
 
 def file(name: str, data: bytes | str, kind: str, plan: sqlite3.Row) -> Response:

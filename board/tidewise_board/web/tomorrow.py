@@ -9,7 +9,7 @@ from flask import Blueprint, abort, render_template
 from .app import board
 from .day import day_of
 from .names import noted
-from .underway import events_of, own_inputs, plans_of
+from ..core import plans
 from ..core.days import source_of
 from ..core.facts import port_of
 from ..core.tomorrow import Rolled, rolled
@@ -19,15 +19,16 @@ pages = Blueprint("tomorrow", __name__)
 
 def roll_of(number: int) -> Rolled | None:
     """What tomorrow would take over of a day's last plan; None where it has none."""
-    here, day, plans = board(), day_of(number), plans_of(number)
-    if not plans:
+    here, day = board(), day_of(number)
+    last = plans.last_plan(here.store, number)
+    if last is None:
         return None
-    run = here.runs.get(plans[-1]["run"])
-    instance = own_inputs(run).instance
+    run = here.runs.get(last["run"])
+    instance = plans.own_inputs(here.store, run).instance
     frozen = here.store.row("SELECT source FROM input WHERE id = ?", run["input"]) if run["input"] else None
     source = source_of(json.loads(here.store.get(frozen["source"]))) if frozen else None
     return rolled(day["name"], here.store.get(instance).decode(), port_of(here.program, instance), here.runs.timetable(run["id"]) or [],
-                  events_of(number), source)
+                  plans.events_of(here.store, number), source)
 
 
 @pages.get("/day/<int:number>/tomorrow")

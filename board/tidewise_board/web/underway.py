@@ -10,15 +10,14 @@ from flask import Blueprint, abort, render_template, request
 
 from .app import board, said, whole
 from .day import day_of
-from .names import noted
+from .names import noted, who
+from ..core import plans
 from ..core.changes import changes, signed
 from ..core.deeds import deeds_of
-from ..core.facts import Port, port_of
-from ..core.happened import Event, event_of, kept_of
-from ..core.runs import Inputs
+from ..core.facts import port_of
+from ..core.happened import event_of, kept_of
 from ..core.shown import shown, table_of
 from ..core.underway import Watch
-from ..core.variants import START
 
 pages = Blueprint("underway", __name__)
 REPAIR_BUDGET = 20000
@@ -26,62 +25,23 @@ MOST_EVENTS = 200
 
 
 def plan_of(number: int) -> sqlite3.Row:
-    plan = board().store.row("SELECT * FROM plan WHERE id = ?", number)
-    if plan is None:
+    try:
+        return plans.plan_of(board().store, number)
+    except plans.NoPlan:
         abort(404)
-    return plan
-
-
-def plans_of(day: int) -> list[sqlite3.Row]:
-    return board().store.rows("SELECT * FROM plan WHERE day = ? ORDER BY number", day)
-
-
-def told_of(day: int) -> list[sqlite3.Row]:
-    """All events of a day that stand, as they were told; a repair doesn't end them."""
-    return board().store.rows("SELECT * FROM event WHERE day = ? ORDER BY id", day)
-
-
-def events_of(day: int) -> list[Event]:
-    return [event_of(json.loads(row["line"])) for row in told_of(day)]
-
-
-def own_inputs(run: sqlite3.Row) -> Inputs:
-    """The inputs that a planner gave, without what was closed since."""
-    frozen = board().store.row("SELECT instance, tides FROM input WHERE id = ?", run["input"]) if run["input"] else None
-    return Inputs(frozen["instance"], frozen["tides"]) if frozen else Inputs(run["instance"], run["tides"])
 
 
 def watch_of(plan: sqlite3.Row, now: int) -> Watch:
     here = board()
-    inputs = own_inputs(here.runs.get(plan["run"]))
+    inputs = plans.own_inputs(here.store, here.runs.get(plan["run"]))
     port = port_of(here.program, inputs.instance)
-    return Watch(here.program, inputs, port, here.runs.timetable(plan["run"]) or [], events_of(plan["day"]), whole(now, 0, port.slots - 1))
-
-
-def same_clock(one: Port, other: Port) -> bool:
-    return (one.start or START, one.minutes) == (other.start or START, other.minutes)
+    return Watch(here.program, inputs, port, here.runs.timetable(plan["run"]) or [], plans.events_of(here.store, plan["day"]), whole(now, 0, port.slots - 1))
 
 
 @pages.post("/api/run/<int:number>/accept")
 def accept(number: int) -> Any:
     """Makes the timetable of a run the day's plan."""
-    here = board()
-    run = here.runs.get(number)
-    if here.runs.verdict(number) is None or here.runs.timetable(number) is None:
-        raise ValueError("there is no verified timetable")
-    last = plans_of(run["day"])
-    if last and last[-1]["run"] == number:
-        return {"plan": last[-1]["id"]}
-    told = [json.loads(row["line"]) for row in told_of(run["day"])]
-    if last and told:
-        before = here.runs.get(last[-1]["run"])
-        if not same_clock(port_of(here.program, before["instance"]), port_of(here.program, run["instance"])):
-            raise ValueError("what has happened was told in the clock of the last plan, and this one begins at another time or has other slots")
-    with here.store.change():
-        plan = here.store.insert("INSERT INTO plan(day, number, run, events) VALUES (?, ?, ?, ?)", run["day"], len(last) + 1, number,
-                                 json.dumps(told))
-        noted(run["day"], f"made it plan {len(last) + 1}: {run['label']}")
-    return {"plan": plan}
+    return {"plan": plans.accept(board().runs, number, who())["id"]}
 
 
 @pages.post("/api/plan/<int:number>/keep")
@@ -94,16 +54,16 @@ def keep(number: int) -> Any:
 
 @pages.get("/day/<int:number>/underway")
 def underway(number: int) -> str:
-    here, rows = board(), plans_of(number)
-    plans = [{"plan": plan, "run": shown(here.runs, plan["run"])} for plan in rows]
-    port = port_of(here.program, own_inputs(here.runs.get(rows[-1]["run"])).instance) if rows else None
-    return render_template("underway.html", day=day_of(number), plans=plans, port=port, page="underway",
+    here = board()
+    rows = plans.plans_of(here.store, number)
+    port = port_of(here.program, plans.own_inputs(here.store, here.runs.get(rows[-1]["run"])).instance) if rows else None
+    return render_template("underway.html", day=day_of(number), plans=[{"plan": plan, "run": shown(here.runs, plan["run"])} for plan in rows], port=port, page="underway",
                            deeds=deeds_of(here.store, number), clock=[port.clock(slot) for slot in range(port.slots + 1)] if port else [])
 
 
 def answer_of(plan: sqlite3.Row, watch: Watch) -> dict[str, Any]:
     """The events so far, and what each breaks."""
-    rows, broken = told_of(plan["day"]), watch.broken()
+    rows, broken = plans.told_of(board().store, plan["day"]), watch.broken()
     return {"events": [{"id": row["id"], "said": event.said(watch.port.clock), "broken": state, "before": row["plan"] != plan["id"],
                         "made": row["made"]} for row, event, state in zip(rows, watch.events, broken[1:])],
             "broken": broken[-1], "noted": watch.noted(), "last": max([0, *watch.sailed_slots()])}

@@ -8,7 +8,7 @@ from flask import Blueprint, abort, redirect, render_template
 from .app import board
 from .day import day_of
 from .publish import issue_of, port_and_rows
-from .underway import events_of, plans_of
+from ..core import plans
 from ..core.happened import Sailed
 from ..core.shown import build_words, shown
 
@@ -30,12 +30,13 @@ def wall(number: int) -> str:
 @pages.get("/api/wall/<int:number>")
 def seen(number: int) -> Any:
     """The plan in force, who sails next, and what has happened."""
-    here, plans = board(), plans_of(number)
-    if not plans:
+    here = board()
+    plan = plans.last_plan(here.store, number)
+    if plan is None:
         abort(404)
-    plan, run = plans[-1], shown(here.runs, plans[-1]["run"])
+    run = shown(here.runs, plan["run"])
     port, rows = port_and_rows(here.runs.get(plan["run"]))
-    events = events_of(number)
+    events = plans.events_of(here.store, number)
     gone = {one.ship for one in events if isinstance(one, Sailed)}
     issue = issue_of(plan)
     return {"run": run["id"], "plan": plan["number"], "issue": issue.number if plan["frozen"] else None, "headline": run["headline"],
