@@ -3,6 +3,7 @@ from __future__ import annotations
 
 import json
 import os
+import random
 import subprocess
 import sys
 import time
@@ -366,3 +367,24 @@ class TestPage:
         source = days.dropped([("port.json", base), ("ships.csv", ships), self.TIDES[0], ("Bar.txt", self.TIDES[1][1].replace("4.24", "x"))])
         assert [(one.where, one.said) for one in days.make(source, program).told if not one.hint] == [
             ("tide", "Bar, line 3: x is no number of metres")]
+
+
+def test_hostile(tmp_path: object) -> None:
+    """Whatever stands in the files of a folder, it is read or refused."""
+    pieces = [b"-", b"", b"0", b"99999999999999999999", b",", b";", b'"', b"\n", b"T" * 50, b"#", b":", b"24:00", b"\xff", b"\0", b"null", b"{}",
+              b"[]", b"-1", b"1e9", b"NaN", b"\r", b"999:59", b"\t", b"1969-12-31 00:00", b"9999-12-31 23:59", b"0001-01-01 00:00", b"true"]
+    draw, root, told = random.Random(6), folder(tmp_path, log_csv="written,who,said\n2027-03-14 04:00,Ann,Iris stays\n"), set()
+    for _ in range(300):
+        path = os.path.join(root, draw.choice(["port.json", "ships.csv", "log.csv", "tides/Bar.txt"]))
+        with open(path, "rb") as file:
+            old = file.read()
+        begin = draw.randrange(len(old))
+        end = begin + draw.choice([0, 1, 5, 20])
+        with open(path, "wb") as file:
+            file.write(old[:begin] + draw.choice(pieces) + old[end:])
+        looked = look(root, draw.choice([None, None, "2027-03-15", "9999-12-31", "0001-01-01"]))
+        assert looked.folder is None or json.loads(looked.folder.instance)["ships"]
+        told |= {one.file for one in looked.told}
+        with open(path, "wb") as file:
+            file.write(old)
+    assert told >= {"port.json", "ships.csv", "log.csv", "tides/Bar.txt"}

@@ -38,6 +38,15 @@ def port_options(command: Command) -> Command:
     return command
 
 
+def ship_names(context: click.Context, parameter: click.Parameter, incomplete: str) -> list[str]:
+    """The ships of the port's folder that begin so, for a shell that completes a word."""
+    try:
+        names = read(find(str(context.params.get("folder") or "."))).port.ships
+    except (Refused, OSError):
+        return []
+    return [name for name in names if name.lower().startswith(incomplete.lower())]
+
+
 def asking_options(command: Command) -> Command:
     """--in, --day, --json and --program, of a command whose words are ships or changes."""
     for option in (PROGRAM, JSON, DAY, INSIDE):
@@ -121,4 +130,4 @@ def terminal() -> bool:
 
 
 __all__ = ["DAY", "FOLDER", "INSIDE", "JSON", "PROGRAM", "Busy", "Failed", "Place", "alone", "asking_options", "near", "place_of", "port_options",
-           "program_of", "say", "say_json", "say_rows", "store_of", "terminal", "warn"]
+           "program_of", "say", "say_json", "say_rows", "ship_names", "store_of", "terminal", "warn"]

@@ -15,14 +15,14 @@ from ..core.reading import Stretch, windows_of
 from ..core.runs import Inputs
 from ..library.clock import Clock
 from ..library.faults import Refused
-from .common import Place, asking_options, place_of, say, say_json
+from .common import Place, asking_options, place_of, say, say_json, ship_names
 
 # A stretch outside a ship's own window, of which the program says nothing.
 OWN = "own"
 
 
 @click.command("windows")
-@click.argument("ships", nargs=-1, metavar="[SHIP ..]")
+@click.argument("ships", nargs=-1, metavar="[SHIP ..]", shell_complete=ship_names)
 @click.option("--draft", metavar="METRES", help="When each may sail with this draft, as 17.80.")
 @click.option("--at", "time", metavar="TIME", help="With which draft each may sail at this time, as 14:05 or 15 Mar 02:00.")
 @asking_options
@@ -138,17 +138,18 @@ def drafts_said(one: Stretch) -> str:
 
 
 class Windows:
-    """The program's windows of all ships; with a slot, those of this slot alone."""
+    """The program's windows of all ships; with a slot, those of this slot alone. The inputs are the folder's, unless others are given."""
 
-    def __init__(self, place: Place, slot: int | None) -> None:
+    def __init__(self, place: Place, slot: int | None, inputs: Inputs | None = None) -> None:
         self.place, self.slot = place, slot
         folder, store = place.folder, place.store
-        self.inputs = Inputs(store.put(folder.instance.encode()), store.put(folder.tides.encode()))
+        self.inputs = inputs or Inputs(store.put(folder.instance.encode()), store.put(folder.tides.encode()))
+        self.instance = store.get(self.inputs.instance).decode()
         said = place.program.ask("windows", "port", *self.inputs.words())
         if said.status:
             raise Refused(said.output.strip())
         self.stretches = windows_of(said.output)
-        self.ships: list[dict[str, Any]] = instance_of(folder.instance)["ships"]
+        self.ships: list[dict[str, Any]] = instance_of(self.instance)["ships"]
 
     def answer(self, ship: int, draft: int | None) -> Answer:
         here = self.ships[ship]
@@ -176,7 +177,7 @@ class Windows:
             clock = self.place.folder.clock
             own = f"her own window is {clock.short(here['earliest'])} to {clock.short(here['latest'])}"
             return [Stretch(OWN, slot, slot, own)]
-        changed = instance_of(self.place.folder.instance)
+        changed = instance_of(self.instance)
         changed["ships"][ship].update({"earliest": slot, "latest": slot})
         said = self.place.program.ask("windows", "port", Draft(json.dumps(changed).encode(), "day.json"), Text(self.inputs.tides, "tides.csv"))
         if said.status:
