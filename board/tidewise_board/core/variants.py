@@ -5,11 +5,12 @@ import copy
 from collections.abc import Callable, Iterator
 from typing import Any
 
+from .facts import NO_DATE
 from ..library import port as port_script
 from ..library import whatif
 
 # The member that version 1 or 2 lacks; no rule reads the start.
-START = "1970-01-01 00:00"
+START = NO_DATE
 
 
 def third(instance: dict[str, Any]) -> dict[str, Any]:
