@@ -138,6 +138,19 @@ def test_rows_of_the_port(planner: Planner) -> None:
     assert json.loads(draft(planner)["base"])["separation"] == [[3, 4], [2, 2]]
 
 
+def test_a_fault_of_the_tide(planner: Planner) -> None:
+    """It stands at the list that it is of, and its line leads there."""
+    planner.drop("calls.csv", "calls-port.json", "waters-bar.txt", "waters-berth.txt")
+    ready(planner)
+    planner.at("t-port").click()
+    planner.driver.execute_script("""const area = document.getElementById('w1'); area.value = area.value.replace('4.2', 'x.2');
+        area.dispatchEvent(new Event('input', {bubbles: true}))""")
+    wait(lambda: planner.at("w1").get_attribute("aria-invalid") == "true")
+    assert planner.at("w0").get_attribute("aria-invalid") is None and not planner.at("w1").is_displayed()
+    planner.driver.find_element(By.CSS_SELECTOR, "#told button:not(.hinted)").click()
+    assert planner.at("w1").is_displayed() and "Bar" in planner.at("w1").get_attribute("title")
+
+
 def test_a_json_with_a_fault_keeps_the_form_away(planner: Planner) -> None:
     planner.drop("contested.json", "day-tides.csv")
     planner.at("t-json").click()

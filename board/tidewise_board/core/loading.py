@@ -5,6 +5,7 @@ stands here, and what other ships need isn't looked at. Drafts are in centimetre
 from __future__ import annotations
 
 import json
+import re
 from collections.abc import Iterable
 from dataclasses import dataclass
 from typing import Any
@@ -92,3 +93,11 @@ def when(program: Program, inputs: Inputs, ship: int, draft: int) -> list[Stretc
 def to_load(program: Program, inputs: Inputs, ship: int, draft: int) -> list[tuple[int, int]]:
     """The first and the last slot of each stretch in which a ship may sail with this draft."""
     return [(one.first, one.last) for one in when(program, inputs, ship, draft) if one.kind == "from"]
+
+
+def centimetres(text: str) -> int:
+    """Metres as a person writes them, 17.80 or 17,8, in whole centimetres; `ValueError` for anything else."""
+    found = re.fullmatch(r"([0-9]{1,2})(?:[.,]([0-9]{1,2}))?", text.strip())
+    if not found:
+        raise ValueError(f"{text!r} is no draft in metres, such as 17.80")
+    return int(found[1]) * 100 + int((found[2] or "").ljust(2, "0"))

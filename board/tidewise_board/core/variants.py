@@ -1,42 +1,34 @@
-"""What-ifs: other instances of a day, most of them by whatif.py."""
+"""What-ifs: other instances of a day, by the changes that `tw try` knows too."""
 from __future__ import annotations
 
 import copy
-from collections.abc import Callable, Iterator
 from typing import Any
 
-from .facts import NO_DATE
-from ..library import port as port_script
-from ..library import whatif
+from ..library.clock import Clock
+from ..library.dates import minute_at
+from ..library.port import text_of
+from ..library.trying import changes_of
+from ..library.trying import third as in_third
 
-# The member that version 1 or 2 lacks; no rule reads the start.
-START = NO_DATE
+# When slot 0 begins on a day that doesn't say so; no rule reads it.
+START = "1970-01-01 00:00"
+# The most variants that are asked for at once.
+MOST = 80
+
+
+def clock_of(instance: dict[str, Any]) -> Clock:
+    return Clock(minute_at(instance.get("start", START), None)[0], instance["slot_minutes"], instance["slots"])
 
 
 def third(instance: dict[str, Any]) -> dict[str, Any]:
-    """The same port in the third version, in which something can be closed."""
-    if instance["version"] == 3:
-        return copy.deepcopy(instance)
-    front = {"version": 3, "start": START, "slots": instance["slots"], "slot_minutes": instance["slot_minutes"], "heights": "start",
-             "closed": []}
-    ships = [{**ship, "may_stay": ship.get("may_stay", False), "closed": []} for ship in instance["ships"]]
-    waypoints: list[dict[str, Any]] = [{**one, "closed": []} for one in instance["waypoints"]]
-    return {**front, **instance, **front, "waypoints": waypoints, "ships": ships, "after": []}
+    """The same port in the third version, in which something can be closed; a copy, to be changed."""
+    return copy.deepcopy(in_third(instance, clock_of(instance)))
 
 
-def variants(instance: dict[str, Any], closed: tuple[int, int] | None, clock: Callable[[int], str]) -> Iterator[tuple[str, str]]:
-    """A label and the instance's text for each: a tug more and a tug less, ten centimetres more at each waypoint, and closed slots."""
-    words = [f"fleet={max(0, instance['fleet'] - 1)}..{instance['fleet'] + 1}", "deeper=10"]
-    for name, changed in whatif.variants_of(instance, words)[1:]:
-        yield label_of(name, instance), str(port_script.text_of(changed)) + "\n"
-    if closed is not None:
-        changed = third(instance)
-        changed["closed"].append({"from": closed[0], "to": closed[1]})
-        yield f"port closed {clock(closed[0])} to {clock(closed[1] + 1)}", str(port_script.text_of(changed)) + "\n"
-
-
-def label_of(name: str, instance: dict[str, Any]) -> str:
-    if name.startswith("fleet "):
-        more = int(name[6:]) - instance["fleet"]
-        return f"{abs(more)} tug{'' if abs(more) == 1 else 's'} {'more' if more > 0 else 'less'} ({name[6:]})"
-    return str(name)
+def variants(instance: dict[str, Any], words: list[str]) -> list[tuple[str, str]]:
+    """A label and the instance's text for each change, as `depth.Bar=+10`; `Refused` for what is none. Without words they are a tug
+    less, a tug more and ten centimetres at each waypoint."""
+    found = changes_of(words, instance, clock_of(instance))
+    if len(found) > MOST:
+        raise ValueError(f"these are {len(found)} days to plan, and not {MOST} at most: name a ship, or fewer tugs")
+    return [(name, f"{text_of(changed)}\n") for name, changed in found]

@@ -46,7 +46,7 @@ def whole(value: object, low: int, high: int) -> int:
 
 
 def create(store: Store, program: Program, runs: Runs, key: str, port: int) -> Flask:
-    from . import audit, berths, compare, day, names, owner, plan, publish, tomorrow, underway, wall, windows
+    from . import audit, berths, compare, day, names, owner, plan, publish, tomorrow, underway, wall, whatifs, windows
     race.take_up(runs)
     app = Flask(__name__)
     app.extensions["board"] = Board(store, program, runs)
@@ -54,8 +54,7 @@ def create(store: Store, program: Program, runs: Runs, key: str, port: int) -> F
     app.jinja_env.trim_blocks = app.jinja_env.lstrip_blocks = True
     app.jinja_env.filters["tonnes"] = tonnes
     guard(app, key, port)
-    for part in (day, plan, berths, windows, compare, underway, publish, audit, owner, names,
-                 tomorrow, wall):
+    for part in (day, plan, whatifs, berths, windows, compare, underway, publish, audit, owner, names, tomorrow, wall):
         app.register_blueprint(part.pages)
 
     @app.context_processor

@@ -12,14 +12,16 @@ from flask import Blueprint, Response, abort, render_template
 from .app import board, said
 from .day import day_of
 from .names import noted, who
-from .plan import begin_whatifs, whatifs
+from .whatifs import begin, listed, words_of
 from ..core.changes import signed
 from ..core.facts import Port, port_of
-from ..core.hand import ByHand, judged, minute_of, slots_of
+from ..core.hand import ByHand, judged, slots_of
 from ..core.issue import cell
 from ..core.reading import tonnes
 from ..core.runs import Inputs, flat_problem
 from ..core.shown import build_words, seal, shown
+from ..library.trying import USUAL
+from ..library.trying import USUAL
 
 pages = Blueprint("owner", __name__)
 
@@ -57,7 +59,7 @@ def row_of(day: sqlite3.Row, run: sqlite3.Row) -> dict[str, Any] | None:
         return None
     hand = last_hand(day["id"], run)
     return {"day": day["id"], "name": day["name"], "made": day["made"], "run": run["id"], "cargo": plan["cargo"], "bound": plan["bound"],
-            "headline": plan["headline"], "seal": seal(here.program.proved, verdict), "whatifs": whatifs(run["id"])["rows"],
+            "headline": plan["headline"], "seal": seal(here.program.proved, verdict), "whatifs": listed(run["id"])["rows"],
             "hand": None if hand is None else {"cargo": hand.cargo, "permitted": hand.permitted, "breaks": len(hand.broken),
                                                "more": signed(plan["cargo"] - hand.cargo)}}
 
@@ -77,23 +79,9 @@ def last_hand(day: int, run: sqlite3.Row) -> ByHand | None:
 
 @pages.post("/api/owner/whatif")
 def everywhere() -> Any:
-    """Asks the same of every day: a tug more and less, ten centimetres more, and the port closed between two times of the clock."""
-    here, asked, begun = board(), said(), []
-    times = asked.get("from"), asked.get("to")
-    for _, run in planned_days():
-        port = port_of(here.program, run["instance"])
-        begun += begin_whatifs(here, run, closed_of(port, *times) if all(times) else None)
-    return {"runs": begun}
-
-
-def closed_of(port: Port, start: object, end: object) -> tuple[int, int] | None:
-    """The slots between two times of the port's clock; `ValueError` where they are none."""
-    first, last = (minute_of(str(text), port) for text in (start, end))
-    if first is None or last is None:
-        raise ValueError("a time is written as 05:00")
-    if not 0 <= first < last or first >= port.slots * port.minutes:
-        return None
-    return first // port.minutes, min(port.slots, -(-last // port.minutes)) - 1
+    """Asks the same of every day: a tug more and less and ten centimetres more, and these changes, in the words of `tw try`."""
+    words = words_of(said().get("changes", []))
+    return {"runs": [run for _, plan in list(planned_days()) for run in begin(plan, [*USUAL, *words])]}
 
 
 @pages.post("/api/owner/hand/<int:number>")

@@ -13,12 +13,10 @@ from ..core.pins import bare_of, pinned, why_not
 from ..core.program import Text
 from ..core.runs import ENDED, Inputs, inputs_of
 from ..core.shown import picture_words, root_of, seal, shown, worth
-from ..core.variants import variants
-from .app import Board, board, said, whole
+from .app import board, said, whole
 from ..core.wishes import wishes_of
 
 pages = Blueprint("plans", __name__)
-WHAT_IF_BUDGET = 20000
 
 
 def run_of(number: int) -> sqlite3.Row:
@@ -33,7 +31,8 @@ def plan_page(day: int, number: int) -> str:
     run = run_of(number)
     if run["day"] != day:
         abort(404)
-    return render_template("plan.html", day=day_of(day), run=number, page="plan")
+    port = port_of(board().program, run["instance"])
+    return render_template("plan.html", day=day_of(day), run=number, page="plan", names={"ships": port.ships, "waypoints": port.waypoints})
 
 
 @pages.get("/picture/<int:number>.svg")
@@ -127,42 +126,6 @@ def why(number: int) -> Any:
     with here.store.change() as db:
         db.execute("UPDATE run SET clash = ? WHERE id = ?", (here.store.put(json.dumps(answer).encode()), number))
     return answer
-
-
-@pages.post("/api/run/<int:number>/whatif")
-def whatif(number: int) -> Any:
-    """Plans variants of the day of this plan, each with its own proof."""
-    here, asked = board(), said()
-    closed = asked.get("closed")
-    if closed is not None:
-        closed = (whole(closed[0], 0, 511), whole(closed[1], 0, 511))
-    return {"runs": begin_whatifs(here, root_of(here.runs, run_of(number)), closed)}
-
-
-def begin_whatifs(here: Board, run: sqlite3.Row, closed: tuple[int, int] | None) -> list[int]:
-    """Begins the variants of a run's day that weren't begun before."""
-    instance, begun = json.loads(here.store.get(run["instance"])), []
-    for label, changed in variants(instance, closed, port_of(here.program, run["instance"]).clock):
-        inputs = Inputs(here.store.put(changed.encode()), run["tides"], run["plan"])
-        again = here.store.row("SELECT id FROM run WHERE kind = 'whatif' AND base = ? AND instance = ? AND program = ?", run["id"],
-                               inputs.instance, here.program.digest)
-        begun.append(again["id"] if again else here.runs.begin(run["day"], inputs, "whatif", label, WHAT_IF_BUDGET, None, run["id"]))
-    return begun
-
-
-@pages.get("/api/run/<int:number>/whatifs")
-def whatifs(number: int) -> Any:
-    here = board()
-    root = root_of(here.runs, run_of(number))
-    base, rows = here.runs.verdict(root["id"]), []
-    for run in here.store.rows("SELECT * FROM run WHERE base = ? AND kind = 'whatif' ORDER BY id", root["id"]):
-        verdict = here.runs.verdict(run["id"])
-        rows.append({"label": run["label"], "ended": run["state"] in ENDED, "word": verdict.word if verdict else run["fault"] or "",
-                     "difference": worth(base, verdict, here.program.proved), "run": run["id"],
-                     "tenths": verdict.cargo - base.cargo if verdict and base and verdict.cargo is not None and base.cargo is not None
-                     and verdict.word == base.word == "optimal" else None,
-                     "seal": seal(here.program.proved, base, verdict), "base": root["id"], "cert": run["cert"]})
-    return {"rows": rows}
 
 
 @pages.get("/api/day/<int:number>/answers")

@@ -7,7 +7,7 @@ from flask import Blueprint, abort, render_template, request
 
 from ..core.days import make
 from ..core.facts import Port, port_of, said_of
-from ..core.loading import loading, to_load
+from ..core.loading import centimetres, loading, to_load
 from ..core.reading import Stretch, flat_of, tonnes, windows_of
 from ..core.runs import Inputs
 from .app import board
@@ -74,14 +74,6 @@ def to(number: int, ship: int) -> Any:
     found = to_load(here.program, inputs, ship, draft)
     when = ", and ".join(span(port, first, last) for first, last in found)
     return {"draft": draft, "slots": found, "said": f"{port.ships[ship]} with {draft / 100:.2f} m: " + (f"sails {when}" if found else "in no slot")}
-
-
-def centimetres(text: str) -> int:
-    """Metres as a person writes them, 17.80 or 17,8, in whole centimetres."""
-    whole, _, rest = text.strip().replace(",", ".").partition(".")
-    if not (whole.isdecimal() and len(whole) <= 2 and len(rest) <= 2 and (rest.isdecimal() or not rest)):
-        raise ValueError(f"{text!r} is no draft in metres, such as 17.80")
-    return int(whole) * 100 + int(rest.ljust(2, "0"))
 
 
 def known(number: int) -> tuple[Any, Inputs, Port]:

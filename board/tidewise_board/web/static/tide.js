@@ -8,6 +8,17 @@ export function tide(panel, source, waypoints, changed) {
   else for (const [place, one] of source.lists.entries()) printed(panel, place, one, changed);
 }
 
+/** Marks the texts of the tide that have a fault: the list of the waypoint that a fault names, else all. */
+export function mark_tide(panel, source, told) {
+  const faults = told.filter((one) => one.where === 'tide' && !one.hint).map((one) => one.said);
+  const named = source.table === null ? source.lists.map((one) => one.waypoint) : [];
+  panel.querySelectorAll('textarea').forEach((area, place) => {
+    const own = faults.filter((said) => said.startsWith(named[place] ?? '') || !named.some((name) => said.startsWith(name)));
+    if (own.length) area.setAttribute('aria-invalid', 'true'); else area.removeAttribute('aria-invalid');
+    area.title = own.join('\n');
+  });
+}
+
 function whole(panel, source, waypoints, changed) {
   const area = make('textarea', {id: 'table', value: source.table, spellcheck: false});
   area.addEventListener('input', () => { source.table = area.value; changed(); });
