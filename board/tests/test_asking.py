@@ -284,7 +284,7 @@ class TestTry:
 
     def test_without_a_best(self, tw: Tw, port: str) -> None:
         done = tw("try", "--folder", port, "--program", "/no/program")
-        assert (done.status, done.out) == (5, "")
+        assert (done.status, done.out) == (6, "")
 
     @pytest.mark.parametrize("word,cause", [
         ("tides=3", "tides=3 is no change: fleet, depth, close, later, deep, tugs, separation or without, as depth.Bar=+10"),
