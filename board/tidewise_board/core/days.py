@@ -10,14 +10,21 @@ import tempfile
 from dataclasses import asdict, dataclass, field
 from typing import Any
 
+from ..library import faults
 from ..library import port as port_script
 from ..library import tides as tides_script
+from ..library.dates import ORDERS
+from ..library.faults import Wrong
+from ..library.heads import column_of
 from .program import Program, Text
 from .reading import Fault, faults_of
 
 # The members of a ship that a sheet over a whole instance shows.
 MEMBERS = ["name", "direction", "class", "earliest", "latest", "tpc", "light", "deep", "tugs", "job", "may_stay"]
 MOST_TEXT = 4 << 20
+# What the table and the port are called where something is told of them.
+SHEET = "ships"
+PORT = "port"
 
 
 class NoDay(Exception):
@@ -110,14 +117,25 @@ def classify(name: str, text: str) -> str:
         except (ValueError, RecursionError):
             raise NoDay(f"{name} is no JSON") from None
         return "instance" if "ships" in members else "port"
-    head = start.partition("\n")[0].lower()
-    if head.startswith(("slot,", "water,", '"slot"', '"water"')):
+    if start.partition("\n")[0].lower().startswith(("slot,", "water,", '"slot"', '"water"')):
         return "table"
-    if "direction" in head and "name" in head:
+    try:
+        columns = {column_of(head)[0] for row in headed(start)[:1] for head in row}
+    except faults.Fault:
+        columns = set()
+    if "name" in columns and columns & {"direction", "arrives", "sails", "loads"}:
         return "ships"
-    if re.search(r"[0-9]{1,2}:?[0-9]{2}\s+-?[0-9]+[.,][0-9]", start):
+    if re.search(r"[0-9]{1,2}:?[0-9]{2}[\s,;]+-?[0-9]+[.,][0-9]", start):
         return "list"
     raise NoDay(f"{name} is none of: ships (CSV with columns), a port or an instance (JSON), a tide table (CSV), printed waters")
+
+
+def headed(text: str) -> list[list[str]]:
+    """The cells of a table from its head on, without what stands above."""
+    rows = port_script.cells_of(text.lstrip("\ufeff"))
+    while rows and (not any(rows[0]) or rows[0][0].startswith("#") and not any(rows[0][1:])):
+        del rows[0]
+    return rows
 
 
 def dropped(files: list[tuple[str, str]]) -> Source:
@@ -139,7 +157,7 @@ def dropped(files: list[tuple[str, str]]) -> Source:
             raise NoDay(f"{found['instance'][0]} has no list of ships") from None
         source = Source(True, found["instance"][1], columns, rows)
     elif "port" in found and "ships" in found:
-        columns, *rows = port_script.cells_of(found["ships"][1].lstrip("\ufeff"))
+        columns, *rows = headed(found["ships"][1])
         source = Source(False, found["port"][1], columns, [row + [""] * (len(columns) - len(row)) for row in rows if any(row)])
     else:
         raise NoDay("an instance, or a port and a table of ships, is needed")
@@ -158,14 +176,25 @@ def waypoints_of(source: Source) -> list[str]:
 
 
 def lists_of(source: Source, files: list[tuple[str, str]]) -> list[dict[str, str]]:
-    """Printed waters for each waypoint: the file that has its name, or else the next one."""
-    rest = list(files)
-    found = []
+    """Printed waters for each waypoint: the file that the port names or that has its name, or else the next one."""
+    rest, texts, found = list(files), dict(files), []
+    said = tides_said(source)
     for waypoint in waypoints_of(source):
-        named = [one for one in rest if waypoint.lower() in one[0].lower()] or rest[:1]
-        if named:
+        name, differences = said.get(waypoint, ("", ""))
+        named = [(name, texts[name])] if name in texts else [one for one in files if waypoint.lower() in one[0].lower()] or rest[:1]
+        if named and named[0] in rest:
             rest.remove(named[0])
-        found.append({"waypoint": waypoint, "text": named[0][1] if named else "", "differences": ""})
+        found.append({"waypoint": waypoint, "text": named[0][1] if named else "", "differences": differences if name in texts else ""})
+    return found
+
+
+def tides_said(source: Source) -> dict[str, tuple[str, str]]:
+    """The file and the differences of each waypoint whose `tide` the port says, as `Bar.txt+24m*1.03-5cm`."""
+    found = {}
+    for item in json.loads(source.base)["waypoints"] if waypoints_of(source) else []:
+        parts = re.fullmatch(r"(.+?\.(?:txt|csv))(.*)", str(item.get("tide", "")), re.IGNORECASE)
+        if parts:
+            found[str(item["name"])] = (parts[1], parts[2])
     return found
 
 
@@ -216,30 +245,37 @@ def _renumbered(pairs: Any, origins: list[int], many: int) -> Any:
 
 
 def instance_text(source: Source) -> tuple[str | None, list[Told]]:
-    """The instance of a source, or what its scripts refuse."""
+    """The instance of a source, or what is refused of it; and hints."""
     if source.whole:
         try:
             return whole_instance(source), []
         except (ValueError, KeyError, TypeError, IndexError, AttributeError, RecursionError) as cause:
             return None, [Told("port", f"the instance can't be read: {cause}")]
     try:
-        made = port_script.instance_of(("ships", ships_text(source)), ("port", source.base), source.dates)
-        return str(port_script.text_of(made)) + "\n", []
-    except tides_script.Refused as cause:
-        return None, [told_of(line) for line in str(cause).split("\n")]
+        made = made_of(source)
+    except Wrong as cause:
+        return None, [told_of(one) for one in cause.told]
+    return f"{port_script.text_of(made.instance)}\n", [told_of(one) for one in made.hints]
 
 
-def told_of(line: str) -> Told:
-    """A refusal of port.py at its cell. Its rows count from 1, the header among them."""
-    found = re.fullmatch(r"ships, row ([0-9]+), column (.+?): (.*)", line)
-    if found:
-        row = int(found[1])
-        return Told("ships", found[3], False, row - 2 if row > 1 else None, found[2])
-    said = line.partition(", ")[2] or line
-    if not line.startswith("port, "):
-        return Told("day", said)
-    place = re.match(r"[a-z_]+(?:\.[a-z0-9_]+)*(?=: )", said)
-    return Told("port", said, place=place[0] if place else None)
+def made_of(source: Source) -> port_script.Made:
+    """The instance of a port and a table of ships, a row for each movement or for each call; `Wrong` where they have faults."""
+    return port_script.made_of((SHEET, ships_text(source)), (PORT, source.base), source.dates)
+
+
+def told_of(one: faults.Told) -> Told:
+    """What is told of the table or of the port, at its cell or its place. Rows of a table count from 1, the head among them."""
+    if one.file == SHEET and one.row is not None:
+        return Told("ships", one.said, one.hint, one.row - 2 if one.row > 1 else None, one.column)
+    return Told("port" if one.file == PORT else "day", one.said, one.hint, place=one.place)
+
+
+def berths_of(source: Source) -> dict[int, str]:
+    """The berth of each ship by the day's table, where it names one."""
+    if source.whole:
+        return {}
+    rows = made_of(source).rows
+    return {ship: row.cells["berth"] for ship, row in enumerate(rows) if row.cells.get("berth")}
 
 
 def tides_text(source: Source, instance: str | None) -> tuple[str | None, list[Told]]:
@@ -249,11 +285,11 @@ def tides_text(source: Source, instance: str | None) -> tuple[str | None, list[T
     try:
         base = json.loads(source.base)
         start, minutes = str(base["start"]), str(base["slot_minutes"])
-        heights = json.loads(instance).get("heights") if instance else base.get("heights")
-    except (ValueError, KeyError, TypeError):
+        words = flags_of(source, base, json.loads(instance) if instance else base)
+    except (ValueError, KeyError, TypeError, AttributeError):
         return None, [Told("tide", "printed waters need the port's start and slot_minutes")]
     with tempfile.TemporaryDirectory() as folder:
-        words = (["--dates", source.dates] if source.dates else []) + (["--least"] if heights == "start" else []) + [start, minutes]
+        words += [start, minutes]
         for number, one in enumerate(source.lists):
             path = os.path.join(folder, f"waters {number}")
             with open(path, "w", encoding="utf-8") as file:
@@ -267,17 +303,31 @@ def tides_text(source: Source, instance: str | None) -> tuple[str | None, list[T
             return None, [Told("tide", said)]
 
 
+def flags_of(source: Source, base: dict[str, Any], instance: dict[str, Any]) -> list[str]:
+    """The options of tides.py for the lists of a day: the order of dates, and what the port says of its lists."""
+    order, lists = source.dates or base.get("dates"), base.get("tides", {})
+    flags = {"--least": instance.get("heights") == "start", "--feet": lists.get("feet") is True, "--one-clock": lists.get("one_clock") is True}
+    return (["--dates", order] if order in ORDERS else []) + [flag for flag, wanted in flags.items() if wanted]
+
+
 def placed(fault: Fault, source: Source) -> Told:
-    """A fault of the program at its cell: its ships count from 0, blank rows not among them."""
+    """A fault of the program at its cell: its ships count from 0, and a row of the sheet may be none of them, or two."""
     found = re.fullmatch(r"ships\.([0-9]+)(?:\.([a-z_]+))?.*", fault.place)
     if found:
-        filled = [number for number, row in enumerate(source.rows) if any(cell.strip() for cell in row)]
-        ship = int(found[1])
-        column = found[2] if found[2] in source.columns else None
-        return Told("ships", fault.said, fault.hint, filled[ship] if ship < len(filled) else None, column)
+        row, heads = row_of(source, int(found[1]))
+        member = found[2] or ""
+        return Told("ships", fault.said, fault.hint, row, heads.get(member, member if member in source.columns else None))
     if fault.place == "tides":
         return Told("tide", fault.said, fault.hint)
     return Told("port", fault.said, fault.hint, place=fault.place)
+
+
+def row_of(source: Source, ship: int) -> tuple[int | None, dict[str, str]]:
+    """The row of a ship in the sheet, and its columns by their names as they are written there."""
+    if not source.whole:
+        row = made_of(source).rows[ship]
+        return row.number - 2, row.heads
+    return ship if ship < len(source.rows) else None, {}
 
 
 def make(source: Source, program: Program) -> Made:
