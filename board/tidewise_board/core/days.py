@@ -286,7 +286,7 @@ def tides_text(source: Source, instance: str | None) -> tuple[str | None, list[T
         base = json.loads(source.base)
         start, minutes = str(base["start"]), str(base["slot_minutes"])
         words = flags_of(source, base, json.loads(instance) if instance else base)
-    except (ValueError, KeyError, TypeError, AttributeError):
+    except (ValueError, KeyError, TypeError, AttributeError, RecursionError):
         return None, [Told("tide", "printed waters need the port's start and slot_minutes")]
     with tempfile.TemporaryDirectory() as folder:
         words += [start, minutes]

@@ -3,6 +3,7 @@ import {make} from './api.js';
 import {CHOICES, FIRST, PAIR, blank, label, times_of, times_text, unit, value_of} from './fields.js';
 
 const TIMES = 'closed';
+const MOST = 200;
 
 export class PortForm {
   /** `text` is the field with the JSON; `whole` says that it is an instance, whose ships are those of the sheet. */
@@ -21,13 +22,23 @@ export class PortForm {
       this.host.replaceChildren(make('p', {className: 'q'}, `The JSON has a fault, mend it there: ${fault.message}`));
       return;
     }
+    try {
+      this.draw();
+    } catch {
+      // What is told of the day says which member has another kind than the program wants.
+      this.fields.clear();
+      this.host.replaceChildren(make('p', {className: 'q'}, 'The JSON has members of another kind than a port: mend them there.'));
+    }
+    this.mark(this.told);
+  }
+
+  draw() {
     // A member that begins with # says nothing to the program.
     const members = Object.keys(this.port).filter((member) => member !== 'ships' && !member.startsWith('#'));
     const plain = members.filter((member) => typeof this.port[member] !== 'object' || member === TIMES);
     const rest = members.filter((member) => !plain.includes(member));
     this.host.replaceChildren(make('div', {className: 'fields'}, ...plain.map((member) => this.named(this.port, member, [member]))),
       ...rest.map((member) => this.group(this.port, member, [member])));
-    this.mark(this.told);
   }
 
   write() {
@@ -82,6 +93,7 @@ export class PortForm {
 
   /** A list: a row each, of its members or of one name. */
   list(items, member, path) {
+    if (items.length > MOST) return make('p', {className: 'm'}, `${items.length} are too many for a form: they stand in the JSON`);
     const columns = [...new Set(items.flatMap((one) => (one !== null && typeof one === 'object' ? Object.keys(one) : [])))];
     const rows = items.map((one, place) => {
       const cells = columns.length ? columns.map((column) => this.cell(one, column, [...path, place, column], `${column} ${place} of ${label(member)}`))
