@@ -26,6 +26,17 @@ if not os.access(PROGRAM, os.X_OK):
     pytest.exit(f"{PROGRAM} isn't built: name a program by TIDEWISE", 4)
 
 
+def pytest_collection_modifyitems(config: pytest.Config, items: list[pytest.Item]) -> None:
+    """Marks tests of a real browser, and keeps one part of all tests where `PART` asks for that, as 2/4."""
+    for item in items:
+        if hasattr(getattr(item, "module", None), "Planner"):
+            item.add_marker(pytest.mark.browser)
+    number, _, count = os.environ.get("PART", "1/1").partition("/")
+    kept = [item for place, item in enumerate(items) if place % int(count) == int(number) - 1]
+    config.hook.pytest_deselected(items=[item for item in items if item not in kept])
+    items[:] = kept
+
+
 def example(*names: str) -> list[tuple[str, str]]:
     found = []
     for name in names:

@@ -248,7 +248,7 @@ def test_one_board_to_a_folder(store: Store) -> None:
         assert board.stdout and board.stdout.readline()
         other = subprocess.run([*words, "8480"], cwd=here, capture_output=True, text=True, timeout=60, check=False)
         board.terminate()
-    assert other.returncode == 1 and "is that of a board that runs" in other.stderr
+    assert other.returncode == 4 and "is that of a board that runs" in other.stderr
     assert os.stat(store.folder).st_mode & 0o777 == 0o700 and os.stat(os.path.join(store.folder, "key")).st_mode & 0o777 == 0o600
 
 

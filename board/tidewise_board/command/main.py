@@ -10,7 +10,7 @@ import traceback
 import click
 
 from .. import __version__
-from ..core.program import Failed
+from ..core.program import Failed, NoProgram
 from ..core.reading import Unread
 from ..core.store import Damaged
 from ..library.faults import Refused, printable
@@ -36,8 +36,6 @@ COMMANDS: dict[str, tuple[str, str]] = {
 }
 # Statuses of `tw` that are no answer of the program: see docs/TW.md.
 WORDS, BAD, REFUSED, READ, WRITE, FAULT, STOPPED = 3, 4, 5, 6, 7, 70, 130
-# A full disk or a store that can't be written, by SQLite's own numbers.
-WRITING = {"SQLITE_FULL", "SQLITE_READONLY", "SQLITE_IOERR", "SQLITE_CANTOPEN"}
 
 
 class Commands(click.Group):
@@ -75,6 +73,8 @@ def status_of(cause: Exception) -> int:
     """The status with which `tw` ends where it couldn't answer."""
     if isinstance(cause, Refused | ValueError):
         return BAD
+    if isinstance(cause, NoProgram):
+        return READ
     if isinstance(cause, Unread | Damaged | Failed):
         return REFUSED
     if isinstance(cause, sqlite3.Error):

@@ -4,27 +4,23 @@ from __future__ import annotations
 import csv
 import io
 import json
-import os
 import re
-import tempfile
 from dataclasses import asdict, dataclass, field
 from typing import Any
 
-from ..library import faults
 from ..library import port as port_script
-from ..library import tides as tides_script
-from ..library.dates import ORDERS
-from ..library.faults import Wrong
-from ..library.heads import column_of
+from ..library.base import start_of
+from ..library.faults import Fault as Misplaced
+from ..library.faults import Refused, Wrong
+from ..library.faults import Told as At
+from ..library.heads import Row, cells_of, column_of, under_head
+from ..library.tides import Listing, Options, listing_of, table_of
 from .program import Program, Text
 from .reading import Fault, faults_of
 
 # The members of a ship that a sheet over a whole instance shows.
 MEMBERS = ["name", "direction", "class", "earliest", "latest", "tpc", "light", "deep", "tugs", "job", "may_stay"]
 MOST_TEXT = 4 << 20
-# What the table and the port are called where something is told of them.
-SHEET = "ships"
-PORT = "port"
 
 
 class NoDay(Exception):
@@ -117,25 +113,24 @@ def classify(name: str, text: str) -> str:
         except (ValueError, RecursionError):
             raise NoDay(f"{name} is no JSON") from None
         return "instance" if "ships" in members else "port"
-    if start.partition("\n")[0].lower().startswith(("slot,", "water,", '"slot"', '"water"')):
+    head = start.partition("\n")[0].lower()
+    if head.startswith(("slot,", "water,", '"slot"', '"water"')):
         return "table"
-    try:
-        columns = {column_of(head)[0] for row in headed(start)[:1] for head in row}
-    except faults.Fault:
-        columns = set()
-    if "name" in columns and columns & {"direction", "arrives", "sails", "loads"}:
+    if is_line_up(start):
         return "ships"
     if re.search(r"[0-9]{1,2}:?[0-9]{2}[\s,;]+-?[0-9]+[.,][0-9]", start):
         return "list"
     raise NoDay(f"{name} is none of: ships (CSV with columns), a port or an instance (JSON), a tide table (CSV), printed waters")
 
 
-def headed(text: str) -> list[list[str]]:
-    """The cells of a table from its head on, without what stands above."""
-    rows = port_script.cells_of(text.lstrip("\ufeff"))
-    while rows and (not any(rows[0]) or rows[0][0].startswith("#") and not any(rows[0][1:])):
-        del rows[0]
-    return rows
+def is_line_up(text: str) -> bool:
+    """Whether a text is a table of ships, with a row for each movement or for each call."""
+    try:
+        rows = under_head(cells_of(text))
+    except Misplaced:
+        return False
+    columns = {column_of(head)[0] for head in rows[0][1]} if rows else set()
+    return "name" in columns and bool(columns & {"direction", "arrives", "sails", "loads"})
 
 
 def dropped(files: list[tuple[str, str]]) -> Source:
@@ -157,7 +152,7 @@ def dropped(files: list[tuple[str, str]]) -> Source:
             raise NoDay(f"{found['instance'][0]} has no list of ships") from None
         source = Source(True, found["instance"][1], columns, rows)
     elif "port" in found and "ships" in found:
-        columns, *rows = headed(found["ships"][1])
+        columns, *rows = [cells for _, cells in under_head(cells_of(found["ships"][1].lstrip("\ufeff")))]
         source = Source(False, found["port"][1], columns, [row + [""] * (len(columns) - len(row)) for row in rows if any(row)])
     else:
         raise NoDay("an instance, or a port and a table of ships, is needed")
@@ -244,38 +239,43 @@ def _renumbered(pairs: Any, origins: list[int], many: int) -> Any:
     return found
 
 
-def instance_text(source: Source) -> tuple[str | None, list[Told]]:
-    """The instance of a source, or what is refused of it; and hints."""
+@dataclass(frozen=True)
+class Written:
+    """The instance of a source, and the row of each ship where it was made of a table; or None and what is refused."""
+    text: str | None
+    told: list[Told]
+    rows: list[Row] = field(default_factory=list)
+
+
+def instance_text(source: Source) -> Written:
+    """The instance of a source, or what the library refuses."""
     if source.whole:
         try:
-            return whole_instance(source), []
+            return Written(whole_instance(source), [])
         except (ValueError, KeyError, TypeError, IndexError, AttributeError, RecursionError) as cause:
-            return None, [Told("port", f"the instance can't be read: {cause}")]
+            return Written(None, [Told("port", f"the instance can't be read: {cause}")])
     try:
-        made = made_of(source)
-    except Wrong as cause:
-        return None, [told_of(one) for one in cause.told]
-    return f"{port_script.text_of(made.instance)}\n", [told_of(one) for one in made.hints]
-
-
-def made_of(source: Source) -> port_script.Made:
-    """The instance of a port and a table of ships, a row for each movement or for each call; `Wrong` where they have faults."""
-    return port_script.made_of((SHEET, ships_text(source)), (PORT, source.base), source.dates)
-
-
-def told_of(one: faults.Told) -> Told:
-    """What is told of the table or of the port, at its cell or its place. Rows of a table count from 1, the head among them."""
-    if one.file == SHEET and one.row is not None:
-        return Told("ships", one.said, one.hint, one.row - 2 if one.row > 1 else None, one.column)
-    return Told("port" if one.file == PORT else "day", one.said, one.hint, place=one.place)
+        made = port_script.made_of(("ships", ships_text(source)), ("port", source.base), source.dates)
+    except Wrong as wrong:
+        return Written(None, list(map(told_of, wrong.told)))
+    except Refused as cause:
+        return Written(None, [Told("day", f"{cause}")])
+    return Written(port_script.text_of(made.instance) + "\n", list(map(told_of, made.hints)), made.rows)
 
 
 def berths_of(source: Source) -> dict[int, str]:
     """The berth of each ship by the day's table, where it names one."""
-    if source.whole:
-        return {}
-    rows = made_of(source).rows
-    return {ship: row.cells["berth"] for ship, row in enumerate(rows) if row.cells.get("berth")}
+    return {ship: row.cells["berth"] for ship, row in enumerate(instance_text(source).rows) if row.cells.get("berth")}
+
+
+def told_of(one: At) -> Told:
+    """What the library tells, at its cell. Its rows count from 1, the header among them."""
+    if one.file == "ships":
+        return Told("ships", one.said, one.hint, one.row - 2 if one.row and one.row > 1 else None, one.column)
+    if one.file != "port":
+        return Told("day", f"{one}", one.hint)
+    place = one.place if one.place is None or re.fullmatch(r"[a-z_]+(?:\.[a-z0-9_]+)*", one.place) else None
+    return Told("port", f"{one}".removeprefix("port, "), one.hint, place=place)
 
 
 def tides_text(source: Source, instance: str | None) -> tuple[str | None, list[Told]]:
@@ -284,60 +284,48 @@ def tides_text(source: Source, instance: str | None) -> tuple[str | None, list[T
         return source.table, []
     try:
         base = json.loads(source.base)
-        start, minutes = str(base["start"]), str(base["slot_minutes"])
-        words = flags_of(source, base, json.loads(instance) if instance else base)
-    except (ValueError, KeyError, TypeError, AttributeError, RecursionError):
+        start, minutes, said = start_of(base["start"]), int(base["slot_minutes"]), base.get("tides") or {}
+        heights = json.loads(instance).get("heights") if instance else base.get("heights")
+        options = Options(source.dates or base.get("dates"), bool(said.get("feet")), heights == "start", bool(said.get("one_clock")))
+    except (ValueError, KeyError, TypeError, AttributeError, RecursionError, Misplaced):
         return None, [Told("tide", "printed waters need the port's start and slot_minutes")]
-    with tempfile.TemporaryDirectory() as folder:
-        words += [start, minutes]
-        for number, one in enumerate(source.lists):
-            path = os.path.join(folder, f"waters {number}")
-            with open(path, "w", encoding="utf-8") as file:
-                file.write(one["text"])
-            words.append(f"{one['waypoint']}={path}{one['differences'].strip()}")
-        try:
-            return "\n".join(tides_script.lines_of(words)) + "\n", []
-        except (tides_script.Refused, UnicodeError) as cause:
-            said = re.sub(rf"{re.escape(folder)}/waters ([0-9]+)",
-                          lambda found: source.lists[int(found[1])]["waypoint"], f"{cause}")
-            return None, [Told("tide", said)]
+    try:
+        lists = [listing(one) for one in source.lists]
+        return "\n".join(table_of(lists, start, minutes, options)) + "\n", []
+    except (Refused, UnicodeError, ZeroDivisionError) as cause:
+        return None, [Told("tide", f"{cause}")]
 
 
-def flags_of(source: Source, base: dict[str, Any], instance: dict[str, Any]) -> list[str]:
-    """The options of tides.py for the lists of a day: the order of dates, and what the port says of its lists."""
-    order, lists = source.dates or base.get("dates"), base.get("tides", {})
-    flags = {"--least": instance.get("heights") == "start", "--feet": lists.get("feet") is True, "--one-clock": lists.get("one_clock") is True}
-    return (["--dates", order] if order in ORDERS else []) + [flag for flag, wanted in flags.items() if wanted]
+def listing(one: dict[str, str]) -> Listing:
+    """A list of waters, with its differences; it is called by its waypoint."""
+    waypoint = one["waypoint"]
+    change = listing_of(f"{waypoint}=list{one['differences'].strip()}").change
+    return Listing(waypoint, waypoint, waypoint, change, one["text"].encode())
 
 
-def placed(fault: Fault, source: Source) -> Told:
-    """A fault of the program at its cell: its ships count from 0, and a row of the sheet may be none of them, or two."""
+def placed(fault: Fault, source: Source, rows: list[Row]) -> Told:
+    """A fault of the program at its cell: its ships count from 0, and a row of a table may be none of them, or two."""
     found = re.fullmatch(r"ships\.([0-9]+)(?:\.([a-z_]+))?.*", fault.place)
+    if found and int(found[1]) < len(rows):
+        row = rows[int(found[1])]
+        return Told("ships", fault.said, fault.hint, row.number - 2, row.head(found[2] or "name"))
     if found:
-        row, heads = row_of(source, int(found[1]))
-        member = found[2] or ""
-        return Told("ships", fault.said, fault.hint, row, heads.get(member, member if member in source.columns else None))
+        ship, column = int(found[1]), found[2] if found[2] in source.columns else None
+        return Told("ships", fault.said, fault.hint, ship if ship < len(source.rows) else None, column)
     if fault.place == "tides":
         return Told("tide", fault.said, fault.hint)
     return Told("port", fault.said, fault.hint, place=fault.place)
 
 
-def row_of(source: Source, ship: int) -> tuple[int | None, dict[str, str]]:
-    """The row of a ship in the sheet, and its columns by their names as they are written there."""
-    if not source.whole:
-        row = made_of(source).rows[ship]
-        return row.number - 2, row.heads
-    return ship if ship < len(source.rows) else None, {}
-
-
 def make(source: Source, program: Program) -> Made:
     """The two files of a source, and all that is told of them: by the scripts, and by the program's own `lint`."""
-    instance, told = instance_text(source)
+    written = instance_text(source)
+    instance, told = written.text, list(written.told)
     tides, more = tides_text(source, instance)
     told += more
     if instance is None or tides is None:
         return Made(instance, tides, told)
     store = program.store
     said = program.ask("lint", Text(store.put(instance.encode()), "day.json"), Text(store.put(tides.encode()), "tides.csv"))
-    told += [placed(fault, source) for fault in faults_of(said.output)]
+    told += [placed(fault, source, written.rows) for fault in faults_of(said.output)]
     return Made(instance, tides, told)

@@ -233,6 +233,12 @@ class Runs:
         except subprocess.TimeoutExpired:
             self._set(number, second=f"not within {SECOND_PATIENCE} seconds")
 
+    def second_now(self, number: int) -> None:
+        """Asks the second checker at once, where it takes such a run and hasn't answered yet."""
+        run = self.get(number)
+        if run["second"] is None and run["plan"] is None and run["cert"] is not None:
+            self._second(number)
+
     def stop(self, number: int) -> None:
         """Ends a run; what it wrote is then verified as that of any other."""
         self.asked.add(number)

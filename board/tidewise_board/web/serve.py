@@ -1,4 +1,4 @@
-"""Serves the board on this machine: tidewise-board [--port N] [--data FOLDER] [--program PATH] [--proved SHA256 ..]."""
+"""Serves the board on this machine: `tw board`."""
 from __future__ import annotations
 
 import argparse
@@ -6,6 +6,7 @@ import fcntl
 import os
 import signal
 import sys
+from dataclasses import dataclass
 
 import waitress
 
@@ -16,28 +17,36 @@ from ..core.shown import build_words
 from ..core.store import Store
 from .app import create, default_folder
 
+BUSY = 4
 
-def main() -> None:
-    parser = argparse.ArgumentParser(prog="tidewise-board", description=__doc__)
-    parser.add_argument("--port", type=int, default=8420)
-    parser.add_argument("--data", default=default_folder())
-    parser.add_argument("--program", default="tidewise")
-    parser.add_argument("--proved", action="append", default=[], metavar="SHA256",
-                        help="the SHA-256 of a program that was proved and built; without one nothing is called proved")
-    parser.add_argument("--at-once", type=int, default=max(1, (os.cpu_count() or 2) // 2))
-    parser.add_argument("--nice", type=int, default=5)
-    given = parser.parse_args()
+
+@dataclass(frozen=True)
+class Serving:
+    """How a board is served: its port, the folder of its store, the program, the SHA-256 of those that count as proved, how many runs there
+    are at once, and how far they step back for other programs."""
+    port: int
+    data: str
+    program: str
+    proved: list[str]
+    at_once: int
+    nice: int
+
+
+def open_board(given: Serving) -> int:
+    """Serves a board until it is ended, and returns its status."""
     store = Store(given.data)
     # Two boards over one folder would end each other's runs.
-    with open(os.path.join(given.data, "lock"), "w", encoding="ascii") as lock:
+    with open(os.path.join(given.data, "lock"), "a", encoding="ascii") as lock:
         try:
             fcntl.flock(lock, fcntl.LOCK_EX | fcntl.LOCK_NB)
         except BlockingIOError:
-            sys.exit(f"{given.data} is that of a board that runs")
+            print(f"{given.data} is that of a board that runs, or of a plan that is made", file=sys.stderr)
+            return BUSY
         serve(given, store)
+    return 0
 
 
-def serve(given: argparse.Namespace, store: Store) -> None:
+def serve(given: Serving, store: Store) -> None:
     program = Program(given.program, store, given.proved, given.nice)
     runs = Runs(store, program, given.at_once)
     key = key_of(given.data)
@@ -52,6 +61,19 @@ def serve(given: argparse.Namespace, store: Store) -> None:
         server.run()
     finally:
         runs.close()
+
+
+def main() -> None:
+    """For tests: a board over any folder, whose programs that count as proved are named by words."""
+    parser = argparse.ArgumentParser(prog="tidewise-board", description=__doc__)
+    parser.add_argument("--port", type=int, default=8420)
+    parser.add_argument("--data", default=default_folder())
+    parser.add_argument("--program", default="tidewise")
+    parser.add_argument("--proved", action="append", default=[], metavar="SHA256")
+    parser.add_argument("--at-once", type=int, default=max(1, (os.cpu_count() or 2) // 2))
+    parser.add_argument("--nice", type=int, default=5)
+    given = parser.parse_args()
+    sys.exit(open_board(Serving(given.port, given.data, given.program, given.proved, given.at_once, given.nice)))
 
 
 if __name__ == "__main__":
