@@ -281,7 +281,7 @@ def test_one_that_claims_more_than_it_shows(tw: Tw, port: str, tmp_path: object)
 
 
 def test_one_that_claims_a_proof_it_doesnt_have(tw: Tw, hard: str, tmp_path: object) -> None:
-    fake = script(tmp_path, 'case $1 in prove) REAL prove port day.json tides.csv 1 proof > said; /bin/sed "s/^unfinished 1 best/optimal/" said; exit 0;;'
+    fake = script(tmp_path, 'case $1 in prove) REAL prove port day.json tides.csv 200 proof > said; /bin/sed "s/^unfinished 200 best/optimal/" said; exit 0;;'
                             ' *) exec REAL "$@";; esac')
     tw("trust", fake)
     done = tw("plan", hard, "--program", fake)
@@ -333,8 +333,11 @@ def test_a_store_that_was_changed(tw: Tw, port: str) -> None:
         file.write(b"l ;\n")
     done = tw("plans", port, "--json").json()["plans"][0]
     assert done["headline"] == "No plan" and done["fault"].startswith("Damaged") and done["cargo_t"] is None
-    assert tw("publish", port).status == 4
-    assert tw("plan", port).status in (0, 5)
+    assert tw("publish", port).status == 5
+    # A certificate can be found again.
+    again = tw("plan", port, "--json").json()
+    assert (again["plan"], again["verdict"]) == (2, "optimal 150962.0")
+    assert tw("publish", port).status == 0
 
 
 def test_a_folder_that_cant_be_written(tw: Tw, port: str) -> None:
