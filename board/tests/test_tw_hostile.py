@@ -125,8 +125,8 @@ def test_two_who_write_in_the_log(tw: Tw, port: str) -> None:
     sentences = [f"{ship} not before {hour}:00" for ship in ("Hector", "Iris", "Grace out") for hour in (10, 11)]
     writers = [process("log", "--in", port, "--program", PROGRAM, sentence) for sentence in sentences]
     for writer in writers:
-        writer.communicate(timeout=PATIENCE)
-        assert writer.returncode == 0
+        _, err = writer.communicate(timeout=PATIENCE)
+        assert writer.returncode == 0, err
     with open(os.path.join(port, "log.csv"), encoding="utf-8", newline="") as file:
         said = [row["said"].replace("2027-03-14 ", "") for row in csv.DictReader(file)]
     assert sorted(said) == sorted(sentences)
@@ -334,9 +334,9 @@ def test_a_store_that_was_changed(tw: Tw, port: str) -> None:
     done = tw("plans", port, "--json").json()["plans"][0]
     assert done["headline"] == "No plan" and done["fault"].startswith("Damaged") and done["cargo_t"] is None
     assert tw("publish", port).status == 5
-    # A certificate can be found again.
+    # The same certificate is found again, and takes the place of the one that was changed.
     again = tw("plan", port, "--json").json()
-    assert (again["plan"], again["verdict"]) == (2, "optimal 150962.0")
+    assert (again["plan"], again["verdict"]) == (1, "optimal 150962.0")
     assert tw("publish", port).status == 0
 
 
