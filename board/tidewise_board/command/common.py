@@ -134,5 +134,5 @@ def terminal() -> bool:
     return sys.stderr.isatty()
 
 
-__all__ = ["DAY", "FOLDER", "INSIDE", "JSON", "PROGRAM", "Busy", "Failed", "Place", "alone", "asking_options", "in_tonnes", "near", "place_of", "port_options",
-           "program_of", "say", "say_json", "say_rows", "ship_names", "store_of", "terminal", "warn"]
+__all__ = ["DAY", "FOLDER", "INSIDE", "JSON", "PROGRAM", "Busy", "Failed", "Place", "alone", "asking_options", "in_tonnes", "near", "place_of",
+           "port_options", "program_of", "say", "say_json", "say_rows", "ship_names", "store_of", "terminal", "warn"]
