@@ -153,14 +153,14 @@ class TestWindows:
         done = tw("windows", "Hec", "--in", calls, "--draft", "16,0", "--json")
         assert done.status == 0
         (hector,) = json.loads(done.out)
-        assert hector["load"]["draft"] == 1600
+        assert hector["load"]["draft_m"] == 16.0
         # No slot outside these times allows it, and each within does.
         for time in ("07:10", "07:40", "19:40"):
             drafts = json.loads(tw("windows", "Hector", "--in", calls, "--at", time, "--json").out)[0]["stretches"]
-            assert drafts[0]["greatest"] >= 1600
+            assert drafts[0]["greatest_m"] >= 16.0
         for time in ("06:55", "13:10", "19:25"):
             drafts = json.loads(tw("windows", "Hector", "--in", calls, "--at", time, "--json").out)[0]["stretches"]
-            assert drafts[0]["greatest"] < 1600
+            assert drafts[0]["greatest_m"] < 16.0
         assert hector["load"]["times"] == [{"from": "2027-03-14 07:10", "to": "2027-03-14 07:40"},
                                            {"from": "2027-03-14 19:40", "to": "2027-03-14 19:40"}]
 
@@ -271,8 +271,8 @@ class TestTry:
         done = tw("try", "--in", port, "depth.bar=1410", "fleet=1", "--json")
         answer = json.loads(done.out)
         same, deeper, one = answer["changes"]
-        assert (same["least"], same["most"], deeper["cargo"] - same["cargo"], deeper["least"], deeper["most"]) == (0, 0, 10000, 10000, 10000)
-        assert (one["change"], one["result"], one["cargo"], one["least"]) == ("1 tug", "infeasible", None, None)
+        assert (same["least_t"], same["most_t"], deeper["cargo_t"] - same["cargo_t"], deeper["least_t"], deeper["most_t"]) == (0, 0, 1000, 1000, 1000)
+        assert (one["change"], one["result"], one["cargo_t"], one["least_t"]) == ("1 tug", "infeasible", None, None)
 
     def test_picture(self, tw: Tw, port: str) -> None:
         edit(port, "ships.csv", "Bittern,", "</svg>,")

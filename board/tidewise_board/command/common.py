@@ -105,6 +105,11 @@ def warn(text: str) -> None:
     click.echo(printable(text), err=True)
 
 
+def in_tonnes(tenths: int | None) -> float | None:
+    """Tenths of a tonne in tonnes, for JSON."""
+    return None if tenths is None else tenths / 10
+
+
 def say_json(answer: object) -> None:
     click.echo(json.dumps(answer, ensure_ascii=True, indent=1))
 
@@ -129,5 +134,5 @@ def terminal() -> bool:
     return sys.stderr.isatty()
 
 
-__all__ = ["DAY", "FOLDER", "INSIDE", "JSON", "PROGRAM", "Busy", "Failed", "Place", "alone", "asking_options", "near", "place_of", "port_options",
-           "program_of", "say", "say_json", "say_rows", "ship_names", "store_of", "terminal", "warn"]
+__all__ = ["DAY", "FOLDER", "INSIDE", "JSON", "PROGRAM", "Busy", "Failed", "Place", "alone", "asking_options", "in_tonnes", "near", "place_of",
+           "port_options", "program_of", "say", "say_json", "say_rows", "ship_names", "store_of", "terminal", "warn"]

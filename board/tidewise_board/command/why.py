@@ -10,14 +10,14 @@ import click
 from ..core.facts import in_words, matrix, said_of
 from ..core.pins import why_not
 from ..core.plans import own_inputs
-from ..core.reading import clash_of, flat_of, restrictions_of, timetable_of, tonnes, windows_of
+from ..core.reading import clash_of, flat_of, restrictions_of, timetable_of, windows_of
 from ..core.runs import Inputs
 from ..core.wishes import Wish, wishes_of
 from ..library.clock import Clock
 from ..library.faults import Refused
-from .common import Place, asking_options, place_of, say, say_json, ship_names, warn
+from .common import Place, asking_options, in_tonnes, place_of, say, say_json, ship_names, warn
 from .day import dated, standing
-from .windows import Windows, draft_of, metres, slot_of, why_not as not_there
+from .windows import Windows, draft_of, slot_of, why_not as not_there
 
 FITS, CLASHES, UNFINISHED = 0, 1, 2
 
@@ -32,9 +32,9 @@ def command(ship: str | None, time: str | None, folder: str, day: str | None, as
     With SHIP and TIME: the draft and the cargo with which she would sail then, or what forbids it; and which restrictions would break if the
     other ships kept their times of the day's plan.
 
-    With --json: `fits`, `holds`, `said` and `kept`, a list of `said` and `without`; or `ship`, `time`, `sails`, `draft`, `cargo`, `why`,
-    `plan` and `broken`. A draft is in centimetres, a cargo in tenths of a tonne. Without words the status is that of `clash`: 0 where
-    something fits, 1 where nothing does, 2 where that wasn't found out.
+    With --json: `fits`, `holds`, `said` and `kept`, a list of `said` and `without`; or `ship`, `time`, `sails`, `draft_m`, `cargo_t`,
+    `why`, `plan`, `planned` (her time in it) and `broken`. Drafts are in metres, cargo is in tonnes. Without words the status is that of
+    `clash`: 0 where something fits, 1 where nothing does, 2 where that wasn't found out.
 
     \b
     Example: tw why Corvo 14:05
@@ -145,8 +145,8 @@ def at_time(place: Place, ship: int, slot: int) -> dict[str, Any]:
     flat = flat_of(place.program.ask("flatten", *inputs.words()).output)
     gone = gone_by(plan, ship, slot, clock) if plan else None
     answer: dict[str, Any] = {
-        "ship": place.folder.port.ships[ship], "time": clock.at(slot), "sails": sails and not gone, "draft": draft_of(stretch)[1] if sails else None,
-        "cargo": flat.values[ship][slot] if sails else None, "why": gone or (None if sails else not_there(stretch)), "plan": None,
+        "ship": place.folder.port.ships[ship], "time": clock.at(slot), "sails": sails and not gone, "draft_m": draft_of(stretch)[1] / 100 if sails else None,
+        "cargo_t": in_tonnes(flat.values[ship][slot]) if sails else None, "why": gone or (None if sails else not_there(stretch)), "plan": None,
         "planned": None, "broken": None}
     if plan and answer["sails"]:
         answer.update(compared(place, plan, ship, slot))
@@ -180,8 +180,8 @@ def say_time(here: dict[str, Any]) -> None:
     if not here["sails"]:
         say(f"{here['ship']} can't sail at {here['time']}: {here['why']}")
         return
-    say(f"{here['ship']} may sail at {here['time']} with {metres(here['draft'])} m"
-        + (f" and {tonnes(here['cargo'])} t" if here["cargo"] else ""))
+    say(f"{here['ship']} may sail at {here['time']} with {here['draft_m']:.2f} m"
+        + (f" and {here['cargo_t']:,.1f} t" if here["cargo_t"] else ""))
     if here["plan"] is None:
         say("There is no plan of the day yet with which that could be compared.")
     elif not here["broken"]:

@@ -26,22 +26,22 @@ OWN = "own"
 @click.option("--draft", metavar="METRES", help="When each may sail with this draft, as 17.80.")
 @click.option("--at", "time", metavar="TIME", help="With which draft each may sail at this time, as 14:05 or 15 Mar 02:00.")
 @asking_options
-def command(ships: tuple[str, ...], draft: str | None, time: str | None, folder: str, day: str | None, as_json: bool, program: str) -> int:
-    """Says when each SHIP, or each of all, may sail, with which draft, and why not at other times. Other ships, berths and tugs aren't
-    looked at. Times are those at which slots begin, from the first to the last of each stretch.
+def command(ships: tuple[str, ...], draft: str | None, time: str | None, **asked: Any) -> int:
+    """Says when each SHIP, or each ship of the day, may sail, with which draft, and why she can't at other times. Other ships, berths
+    and tugs aren't looked at. Times are those at which slots begin, from the first to the last slot of each stretch.
 
-    With --json: a list of `ship`, `direction`, `stretches` and, where a draft is asked for, `load`. A stretch has `from` and `to` and
-    either `least` and `greatest`, drafts in centimetres, and `full`, or `why`; `load` has `draft` and `times`.
+    With --json: a list of `ship`, `direction`, `stretches` and, of a ship that goes out, `load`. A stretch has `from` and `to` and
+    either `least_m` and `greatest_m`, drafts in metres, and `full`, or `why`; `load` has `draft_m` and `times`.
 
     \b
     Example: tw windows Corvo --draft 17.80
     """
-    place = place_of(folder, day, program)
+    place = place_of(asked["folder"], asked["day"], asked["program"])
     wanted = None if draft is None else centimetres(draft)
     numbers = [place.folder.ship_of(name) for name in ships] or list(range(len(place.folder.port.ships)))
-    asked = Windows(place, None if time is None else slot_of(time, place.folder.clock))
-    answers = [asked.answer(number, wanted) for number in numbers]
-    if as_json:
+    windows = Windows(place, None if time is None else slot_of(time, place.folder.clock))
+    answers = [windows.answer(number, wanted) for number in numbers]
+    if asked["as_json"]:
         say_json([answer.members() for answer in answers])
         return 0
     for answer in answers:
@@ -90,7 +90,7 @@ class Answer:
     def members(self) -> dict[str, Any]:
         found = {"ship": self.ship["name"], "direction": self.ship["direction"], "stretches": list(map(self.stretch, self.stretches))}
         if self.draft is not None:
-            found["load"] = {"draft": self.draft, "times": [self.between(*times) for times in self.times]}
+            found["load"] = {"draft_m": self.draft / 100, "times": [self.between(*times) for times in self.times]}
         return found
 
     def between(self, first: int, last: int) -> dict[str, Any]:
@@ -100,7 +100,7 @@ class Answer:
         if one.kind != "from":
             return {**self.between(one.first, one.last), "why": why_not(one)}
         least, greatest = draft_of(one)
-        return {**self.between(one.first, one.last), "least": least, "greatest": greatest, "full": one.said.endswith(" full")}
+        return {**self.between(one.first, one.last), "least_m": least / 100, "greatest_m": greatest / 100, "full": one.said.endswith(" full")}
 
     def lines(self) -> list[str]:
         ship = self.ship
