@@ -8,46 +8,18 @@ import signal
 import subprocess
 import sys
 import time
-from dataclasses import dataclass
 from xml.etree import ElementTree
 
 import pytest
 from browser import EXAMPLES, PROGRAM
+from ports import Tw, tw  # noqa: F401
 from tidewise_board.command import init
-from tidewise_board.command.main import run
 from tidewise_board.core.program import Program, Text
 from tidewise_board.core.reading import timetable_of
 from tidewise_board.core.store import Store
 from tidewise_board.library.folder import read
 
 PORTS = os.path.join(os.path.dirname(init.__file__), "..", "library", "ports")
-
-
-@dataclass(frozen=True)
-class Done:
-    """How `tw` ended, and what it printed."""
-    status: int
-    out: str
-    err: str
-
-
-class Tw:
-    """The command `tw`, in this process."""
-
-    def __init__(self, captured: pytest.CaptureFixture[str]) -> None:
-        self.captured = captured
-
-    def __call__(self, *words: str) -> Done:
-        status = run(list(words))
-        said = self.captured.readouterr()
-        return Done(status, said.out, said.err)
-
-
-@pytest.fixture
-def tw(capsys: pytest.CaptureFixture[str], monkeypatch: pytest.MonkeyPatch, tmp_path: object) -> Tw:
-    monkeypatch.setenv("TIDEWISE", PROGRAM)
-    monkeypatch.setenv("XDG_CONFIG_HOME", os.path.join(str(tmp_path), "config"))
-    return Tw(capsys)
 
 
 @pytest.fixture
@@ -153,7 +125,7 @@ class TestWindows:
     """Over the example with calls and closed hours, whose windows PLANNING tells."""
 
     def test_all(self, tw: Tw, calls: str) -> None:
-        done = tw("windows", "--folder", calls)
+        done = tw("windows", "--in", calls)
         assert (done.status, done.err) == (0, "")
         lines = done.out.splitlines()
         assert [line for line in lines if not line.startswith(" ")] == [
@@ -163,24 +135,24 @@ class TestWindows:
         assert lines[hector + 1:hector + 3] == ["  03:40 to 06:25  closed", "  06:40 to 07:40  15.75 to 16.37 m"]
 
     def test_draft(self, tw: Tw, calls: str) -> None:
-        done = tw("windows", "Hec", "--folder", calls, "--draft", "16,0", "--json")
+        done = tw("windows", "Hec", "--in", calls, "--draft", "16,0", "--json")
         assert done.status == 0
         (hector,) = json.loads(done.out)
         assert hector["load"]["draft"] == 1600
         # No slot outside these times allows it, and each within does.
         for time in ("07:10", "07:40", "19:40"):
-            drafts = json.loads(tw("windows", "Hector", "--folder", calls, "--at", time, "--json").out)[0]["stretches"]
+            drafts = json.loads(tw("windows", "Hector", "--in", calls, "--at", time, "--json").out)[0]["stretches"]
             assert drafts[0]["greatest"] >= 1600
         for time in ("06:55", "13:10", "19:25"):
-            drafts = json.loads(tw("windows", "Hector", "--folder", calls, "--at", time, "--json").out)[0]["stretches"]
+            drafts = json.loads(tw("windows", "Hector", "--in", calls, "--at", time, "--json").out)[0]["stretches"]
             assert drafts[0]["greatest"] < 1600
         assert hector["load"]["times"] == [{"from": "2027-03-14 07:10", "to": "2027-03-14 07:40"},
                                            {"from": "2027-03-14 19:40", "to": "2027-03-14 19:40"}]
 
     def test_at(self, tw: Tw, calls: str) -> None:
-        done = tw("windows", "Hector", "--folder", calls, "--at", "8:00")
+        done = tw("windows", "Hector", "--in", calls, "--at", "8:00")
         assert done.out.splitlines() == ["Hector, outgoing, 10.00 to 16.50 m", "  07:55  closed"]
-        done = tw("windows", "Iris", "--folder", calls, "--at", "20:00")
+        done = tw("windows", "Iris", "--in", calls, "--at", "20:00")
         assert done.out.splitlines()[1] == "  19:55  her own window is 03:40 to 17:55"
 
     @pytest.mark.parametrize("words,cause", [
@@ -190,39 +162,39 @@ class TestWindows:
         (["Hector", "--at", "16 Mar 04:00"], "16 Mar 04:00 isn't from 2027-03-14 03:40 to 2027-03-15 03:40"),
         (["Hector", "--at", "soon"], "soon is no time, such as 14:05, 15 Mar 02:00, Mon 02:00 or 2027-03-15 02:00")])
     def test_refused(self, tw: Tw, calls: str, words: list[str], cause: str) -> None:
-        done = tw("windows", "--folder", calls, *words)
+        done = tw("windows", "--in", calls, *words)
         assert (done.status, done.out, done.err) == (4, "", f"tw: {cause}\n")
 
 
 class TestWhy:
     def test_something_fits(self, tw: Tw, port: str) -> None:
-        done = tw("why", "--folder", port)
+        done = tw("why", "--in", port)
         assert (done.status, done.out) == (0, "Something fits: `tw plan` finds the best of it.\n")
 
     def test_nothing_fits(self, tw: Tw, port: str) -> None:
         # Bittern loads until the 15th, and Curlew, at the same berth after her, loads for 19 hours with the way in.
         edit(port, "ships.csv", "Curlew,panamax,2027-03-14 06:30,West", "Curlew,panamax,2027-03-14 06:30,East")
         edit(port, "ships.csv", "10:00,East,14:00", "10:00,East,34:00")
-        done = tw("why", "--folder", port)
+        done = tw("why", "--in", port)
         assert done.status == 1
         lines = done.out.splitlines()
         assert lines[0] == "These can't be met together:"
         assert [line[5:] for line in lines if line[:3].strip().isdigit()] == [
             "Bittern out clears the berth 1:00 before Curlew in comes", "Bittern out sails 35:00 after Bittern in, or later",
             "Curlew out sails 19:00 after Curlew in, or later"]
-        kept = json.loads(tw("why", "--folder", port, "--json").out)["kept"]
+        kept = json.loads(tw("why", "--in", port, "--json").out)["kept"]
         assert set(kept[0]["without"]) == {"Bittern in", "Bittern out", "Curlew in", "Curlew out"}
 
     def test_a_ship_that_never_sails(self, tw: Tw, port: str) -> None:
         edit(port, "ships.csv", "100,11.00,17.20", "100,17.00,17.20")
-        done = tw("why", "--folder", port)
+        done = tw("why", "--in", port)
         assert done.status == 1
         assert "Albatross out's own window and water: she can't sail at all: too little water: needs 1700 cm" in done.out
 
     def test_time(self, tw: Tw, calls: str) -> None:
-        done = tw("why", "Hector", "08:30", "--folder", calls)
+        done = tw("why", "Hector", "08:30", "--in", calls)
         assert (done.status, done.out) == (0, "Hector can't sail at 2027-03-14 08:25: closed\n")
-        done = tw("why", "Hector", "07:40", "--folder", calls)
+        done = tw("why", "Hector", "07:40", "--in", calls)
         assert done.out.splitlines() == ["Hector may sail at 2027-03-14 07:40 with 16.37 m and 44,590.0 t",
                                          "There is no plan of the day yet with which that could be compared."]
 
@@ -238,26 +210,26 @@ class TestWhy:
                            "VALUES (?, 'plan', 'plan', ?, ?, 1000, '', 'done', ?)", number, day, tides, cert)
         store.insert("INSERT INTO plan(day, number, run) VALUES (?, 1, ?)", number, run)
         hector, iris = slots[2], slots[3]
-        done = tw("why", "Hector", folder.clock.short(hector), "--folder", calls)
+        done = tw("why", "Hector", folder.clock.short(hector), "--in", calls)
         assert done.out.splitlines()[1] == "In plan 1 nothing is in her way."
         # In the slot of Iris, who goes the same way.
-        done = tw("why", "Hector", folder.clock.short(iris), "--folder", calls)
+        done = tw("why", "Hector", folder.clock.short(iris), "--in", calls)
         assert done.out.splitlines()[1:] == ["In plan 1 these would break:", "  Hector and Iris apart: 0:30 if Hector is first, 1:00 if Iris is"]
         edit(calls, "ships.csv", "Iris", "Ibis")
-        done = tw("why", "Hector", folder.clock.short(iris), "--folder", calls, "--json")
+        done = tw("why", "Hector", folder.clock.short(iris), "--in", calls, "--json")
         assert (json.loads(done.out)["plan"], done.err) == (None, "The plan has other ships: `tw plan` makes one of those that are there now.\n")
 
     @pytest.mark.parametrize("words,cause", [
         (["Skua", "08:00"], "Skua is no ship of this day"), (["Hector"], "a time is missing: tw why SHIP TIME"),
         (["Hector", "12"], "12 is no time, such as 14:05, 15 Mar 02:00, Mon 02:00 or 2027-03-15 02:00")])
     def test_refused(self, tw: Tw, calls: str, words: list[str], cause: str) -> None:
-        done = tw("why", "--folder", calls, *words)
+        done = tw("why", "--in", calls, *words)
         assert (done.status, done.out, done.err) == (4, "", f"tw: {cause}\n")
 
 
 class TestTry:
     def test_differences(self, tw: Tw, port: str) -> None:
-        done = tw("try", "--folder", port, "fleet=5", "depth.Bar=+10", "close=08:00-10:00", "without.Curlew out", "deep.Bittern out=17")
+        done = tw("try", "--in", port, "fleet=5", "depth.Bar=+10", "close=08:00-10:00", "without.Curlew out", "deep.Bittern out=17")
         assert (done.status, done.err) == (0, "")
         title, head, *rows = done.out.splitlines()
         assert title == "2027-03-14 as it is. Best, says an unproved build: 147,180.0 t"
@@ -268,7 +240,7 @@ class TestTry:
         assert [row[0] for row in cells[3:]] == ["port closed 08:00-10:00", "without Curlew out", "Bittern out to 17 m"]
 
     def test_json(self, tw: Tw, port: str) -> None:
-        done = tw("try", "--folder", port, "depth.bar=1410", "fleet=1", "--json")
+        done = tw("try", "--in", port, "depth.bar=1410", "fleet=1", "--json")
         answer = json.loads(done.out)
         same, deeper, one = answer["changes"]
         assert (same["least"], same["most"], deeper["cargo"] - same["cargo"], deeper["least"], deeper["most"]) == (0, 0, 10000, 10000, 10000)
@@ -276,14 +248,14 @@ class TestTry:
 
     def test_picture(self, tw: Tw, port: str) -> None:
         edit(port, "ships.csv", "Bittern,", "</svg>,")
-        done = tw("try", "--folder", port, "depth.Bar=+10", "later.</svg> out=9:00", "--svg")
+        done = tw("try", "--in", port, "depth.Bar=+10", "later.</svg> out=9:00", "--svg")
         assert done.status == 0
         drawn = ElementTree.fromstring(done.out)
         said = [text.text for text in drawn.iter("{http://www.w3.org/2000/svg}text")]
         assert "Bar 10 cm deeper" in said and "+1,000.0" in said and "</svg> out 9:00 later" in said
 
     def test_without_a_best(self, tw: Tw, port: str) -> None:
-        done = tw("try", "--folder", port, "--program", "/no/program")
+        done = tw("try", "--in", port, "--program", "/no/program")
         assert (done.status, done.out) == (6, "")
 
     @pytest.mark.parametrize("word,cause", [
@@ -296,7 +268,7 @@ class TestTry:
         ("later.Skua=1:00", "Skua is no ship of this day"), ("later=1", "1 is no number of hours and minutes, such as 1:30"),
         ("depth.Bar=-1500", "depth.Bar=-1500: that is below 0"), ("separation=1", "separation=1 is no time less, as -0:15")])
     def test_refused(self, tw: Tw, port: str, word: str, cause: str) -> None:
-        done = tw("try", "--folder", port, word)
+        done = tw("try", "--in", port, word)
         assert (done.status, done.out, done.err) == (4, "", f"tw: {cause}\n")
 
     @pytest.mark.parametrize("number", [signal.SIGTERM, signal.SIGHUP])
@@ -308,7 +280,7 @@ class TestTry:
             file.write(f'#!/bin/sh\n[ "$1" = prove ] || exit 0\necho $$ >> {pids}\nexec sleep 600\n')
         os.chmod(fake, 0o755)
         board = os.path.join(os.path.dirname(os.path.abspath(__file__)), "..")
-        with subprocess.Popen([sys.executable, "-m", "tidewise_board", "try", "--folder", port, "--program", fake, "--at-once", "2"],
+        with subprocess.Popen([sys.executable, "-m", "tidewise_board", "try", "--in", port, "--program", fake, "--at-once", "2"],
                               env={**os.environ, "PYTHONPATH": board}, stderr=subprocess.DEVNULL) as run:
             while not os.path.exists(pids) or len(lines(pids)) < 2:
                 assert run.poll() is None

@@ -12,6 +12,8 @@ import pytest
 BOARD = os.path.abspath(os.path.join(os.path.dirname(os.path.abspath(__file__)), ".."))
 EXAMPLES = os.path.join(BOARD, "..", "examples")
 sys.path.insert(0, BOARD)
+from tidewise_board.core import days  # noqa: E402
+from tidewise_board.core.program import Program  # noqa: E402
 from tidewise_board.library import CHECKER, port, tides  # noqa: E402
 from tidewise_board.library.clock import Clock  # noqa: E402
 from tidewise_board.library.dates import minute_of  # noqa: E402
@@ -307,6 +309,20 @@ class TestFolder:
         folder(tmp_path, ships_csv="", other_csv=text_of("calls.csv"))
         assert str(look(root).told[0]) == "ships.csv: it isn't there; the line-up may be lineup.csv, other.csv: call one of them ships.csv"
 
+    def test_no_files(self, tmp_path: object) -> None:
+        root = folder(tmp_path, tides__Bar_txt="")
+        os.mkfifo(os.path.join(root, "tides", "Bar.txt"))
+        assert [str(one) for one in look(root).told] == ["tides/Bar.txt: this is no file"]
+        os.remove(os.path.join(root, "tides", "Bar.txt"))
+        assert [str(one) for one in look(root).told] == [
+            'tides: no list is that of Bar: call it Bar.txt, or name one by "tide" in port.json']
+        with open(os.path.join(root, "ships.csv"), "wb") as file:
+            file.write(b"x" * ((4 << 20) + 1))
+        assert str(look(root).told[0]) == "ships.csv: this file has more than 4 MB"
+        with open(os.path.join(root, "ships.csv"), "wb") as file:
+            file.write("name;Möwe".encode("latin-1"))
+        assert str(look(root).told[0]) == "ships.csv: this isn't text in UTF-8; a spreadsheet saves that as CSV UTF-8"
+
     def test_log(self, tmp_path: object) -> None:
         root = folder(tmp_path, log_csv='written,who,said\n2027-03-14 04:00,Ann,"Iris not before 2027-03-14 06:00"\n\n')
         line = read(root).log[0]
@@ -319,3 +335,34 @@ def test_copies() -> None:
                        (os.path.join(os.path.dirname(CHECKER), "instance.schema.json"), os.path.join(EXAMPLES, "instance.schema.json"))):
         with open(one, "rb") as copy, open(other, "rb") as file:
             assert copy.read() == file.read()
+
+
+class TestPage:
+    """A line-up with a row for each call, dropped on the page."""
+    TIDES = [("Berth.txt", text_of("waters-berth.txt")), ("Bar.txt", text_of("waters-bar.txt"))]
+
+    def made(self, program: Program, ships: str) -> tuple[days.Source, days.Made]:
+        base = json.loads(text_of("calls-port.json"))
+        base["berths"] = [{"name": "East", "clear": 4}]
+        source = days.dropped([("port.json", json.dumps(base)), ("line-up.csv", ships), *self.TIDES])
+        return source, days.make(source, program)
+
+    def test_line_up(self, program: Program) -> None:
+        source, made = self.made(program, f"# as it comes\n{HEAD}\nMöwe,cape,,East,4:00,,100,1100,1720,3,4\n")
+        assert source.columns == HEAD.split(",") and made.good and made.instance
+        assert [ship["name"] for ship in json.loads(made.instance)["ships"]] == ["Moewe in", "Moewe out"]
+        # Both at the cell of the only row: of the second ship, which carries little, and of her name.
+        assert [(one.row, one.column, one.hint) for one in made.told if one.where == "ships"] == [
+            (0, "name", True), (0, "name", True), (0, "tpc", True)]
+
+    def test_fault(self, program: Program) -> None:
+        _, made = self.made(program, f"{HEAD}\nMöwe,cape,soon,East,4:00,,1000,1100,1720,3,4\n")
+        assert [(one.row, one.column, one.said) for one in made.told if not one.hint] == [
+            (0, "arrives", "soon is no date and time, such as 2027-03-14 03:40")]
+
+    def test_fault_of_a_list(self, program: Program) -> None:
+        ships = f"{HEAD}\nMöwe,cape,,East,4:00,,1000,1100,1720,3,4\n"
+        base = text_of("calls-port.json").replace('"berths":[]', '"berths":[{"name":"East","clear":4}]')
+        source = days.dropped([("port.json", base), ("ships.csv", ships), self.TIDES[0], ("Bar.txt", self.TIDES[1][1].replace("4.24", "x"))])
+        assert [(one.where, one.said) for one in days.make(source, program).told if not one.hint] == [
+            ("tide", "Bar, line 3: x is no number of metres")]

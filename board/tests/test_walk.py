@@ -14,6 +14,7 @@ from selenium.webdriver.common.keys import Keys
 DAY = ("day.json", "day-tides.csv")
 SLOTS = 96
 BEST = "Proved best: 308,296.0 t"
+pytestmark = pytest.mark.walk
 
 
 @pytest.fixture

@@ -5,6 +5,8 @@
 """
 import json
 import os
+import shutil
+import signal
 import subprocess
 import sys
 import tempfile
@@ -185,6 +187,11 @@ class WhatIf(unittest.TestCase):
                 1, "", "whatif.py: --race N plans the day as it is by prove, with one seed or more\n"))
 
     def test_ended(self):
+        for number in (signal.SIGTERM, signal.SIGHUP):
+            self.ended_by(number)
+
+    def ended_by(self, number):
+        shutil.rmtree(os.path.join(self.room, "kept"), ignore_errors=True)
         words = [sys.executable, os.path.join(HERE, "whatif.py"), "--program", "fake", "--budget", "20", "--at-once", "1", "--keep",
                  "kept", "day.json", "day.csv", "fleet=8", "fleet=3"]
         with subprocess.Popen(words, cwd=self.room, stderr=subprocess.DEVNULL) as run:
@@ -192,8 +199,8 @@ class WhatIf(unittest.TestCase):
             while not os.path.exists(pid):
                 self.assertIsNone(run.poll())
                 time.sleep(0.1)
-            run.terminate()
-            self.assertEqual(run.wait(30), 143)
+            run.send_signal(number)
+            self.assertEqual(run.wait(60), 128 + number)
         # The run that went on is ended, and no other has begun.
         with open(pid, encoding="utf-8") as file:
             self.assertRaises(ProcessLookupError, os.kill, int(file.read()), 0)
@@ -207,7 +214,10 @@ class WhatIf(unittest.TestCase):
                             ("separation=1", "separation=1 is no number of slots less, as -1")]:
             done = self.run_it("--program", "fake", "day.json", "day.csv", word)
             self.assertEqual((done.returncode, done.stdout, done.stderr), (1, "", f"whatif.py: {cause}\n"))
-        for words, cause in [(["day.csv", "day.csv"], "day.csv is no instance: the program tells the first fault"),
+        for words, cause in [(["--at-once", "0", "day.json", "day.csv"], "--at-once N is one run or more"),
+                             (["--at-once", "-3", "day.json", "day.csv"], "--at-once N is one run or more"),
+                             (["no\x1b[2J", "day.csv"], "no\\x1b[2J: No such file or directory"),
+                             (["day.csv", "day.csv"], "day.csv is no instance: the program tells the first fault"),
                              (["none.json", "day.csv"], "none.json: No such file or directory"),
                              (["--program", "none", "day.json", "day.csv"], "none can't be run")]:
             done = self.run_it("--program", "fake", *words)

@@ -23,7 +23,8 @@ Command = TypeVar("Command", bound=Callable[..., Any])
 STORE = ".tw"
 
 FOLDER = click.argument("folder", default=".", type=click.Path())
-INSIDE = click.option("--folder", metavar="FOLDER", default=".", help="The port's folder, if it isn't the one in which you are.")
+INSIDE = click.option("--in", "folder", default=".", type=click.Path(), metavar="FOLDER",
+                      help="The port's folder; without it that in which you are.")
 DAY = click.option("--day", metavar="DATE", help="Begin slot 0 on this date, as 2027-03-15, and not on that of port.json.")
 JSON = click.option("--json", "as_json", is_flag=True, help="Print the answer as JSON, in the form that docs/TW.md has.")
 PROGRAM = click.option("--program", metavar="PATH", envvar="TIDEWISE", default="tidewise", show_default=True,
@@ -38,7 +39,7 @@ def port_options(command: Command) -> Command:
 
 
 def asking_options(command: Command) -> Command:
-    """--folder, --day, --json and --program, of a command whose words are ships or changes."""
+    """--in, --day, --json and --program, of a command whose words are ships or changes."""
     for option in (PROGRAM, JSON, DAY, INSIDE):
         command = option(command)
     return command

@@ -9,7 +9,7 @@ from ..library.dates import written
 from ..library.faults import Refused
 from ..library.folder import read
 from .book import follow_log, logged, note, now_minute, reader_of, watch_of, written_alone
-from .common import DAY, JSON, PROGRAM, Place, place_of, say, say_json
+from .common import DAY, INSIDE, JSON, PROGRAM, Place, place_of, say, say_json
 from .day import dated, standing, user
 from .sentences import Reader
 
@@ -20,7 +20,7 @@ def slot_of(place: Place, minute: int) -> int:
 
 @click.command(name="log")
 @click.argument("sentence", nargs=-1)
-@click.option("--in", "folder", default=".", type=click.Path(), metavar="FOLDER", help="The port's folder; without it that in which you are.")
+@INSIDE
 @click.option("--now", metavar="TIME", help="What time it is by the port's clock; without it this machine's clock tells.")
 @click.option("--who", metavar="NAME", help="Who says so; without it your user's name.")
 @DAY

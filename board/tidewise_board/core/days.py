@@ -4,14 +4,17 @@ from __future__ import annotations
 import csv
 import io
 import json
-import os
 import re
-import tempfile
 from dataclasses import asdict, dataclass, field
 from typing import Any
 
 from ..library import port as port_script
-from ..library import tides as tides_script
+from ..library.base import start_of
+from ..library.faults import Fault as Misplaced
+from ..library.faults import Refused, Wrong
+from ..library.faults import Told as At
+from ..library.heads import Row, cells_of, column_of, under_head
+from ..library.tides import Listing, Options, listing_of, table_of
 from .program import Program, Text
 from .reading import Fault, faults_of
 
@@ -113,11 +116,21 @@ def classify(name: str, text: str) -> str:
     head = start.partition("\n")[0].lower()
     if head.startswith(("slot,", "water,", '"slot"', '"water"')):
         return "table"
-    if "direction" in head and "name" in head:
+    if is_line_up(start):
         return "ships"
     if re.search(r"[0-9]{1,2}:?[0-9]{2}\s+-?[0-9]+[.,][0-9]", start):
         return "list"
     raise NoDay(f"{name} is none of: ships (CSV with columns), a port or an instance (JSON), a tide table (CSV), printed waters")
+
+
+def is_line_up(text: str) -> bool:
+    """Whether a text is a table of ships, with a row for each movement or for each call."""
+    try:
+        rows = under_head(cells_of(text))
+    except Misplaced:
+        return False
+    columns = {column_of(head)[0] for head in rows[0][1]} if rows else set()
+    return "name" in columns and bool(columns & {"direction", "arrives", "sails", "loads"})
 
 
 def dropped(files: list[tuple[str, str]]) -> Source:
@@ -139,7 +152,7 @@ def dropped(files: list[tuple[str, str]]) -> Source:
             raise NoDay(f"{found['instance'][0]} has no list of ships") from None
         source = Source(True, found["instance"][1], columns, rows)
     elif "port" in found and "ships" in found:
-        columns, *rows = port_script.cells_of(found["ships"][1].lstrip("\ufeff"))
+        columns, *rows = [cells for _, cells in under_head(cells_of(found["ships"][1].lstrip("\ufeff")))]
         source = Source(False, found["port"][1], columns, [row + [""] * (len(columns) - len(row)) for row in rows if any(row)])
     else:
         raise NoDay("an instance, or a port and a table of ships, is needed")
@@ -215,31 +228,38 @@ def _renumbered(pairs: Any, origins: list[int], many: int) -> Any:
     return found
 
 
-def instance_text(source: Source) -> tuple[str | None, list[Told]]:
-    """The instance of a source, or what its scripts refuse."""
+@dataclass(frozen=True)
+class Written:
+    """The instance of a source, and the row of each ship where it was made of a table; or None and what is refused."""
+    text: str | None
+    told: list[Told]
+    rows: list[Row] = field(default_factory=list)
+
+
+def instance_text(source: Source) -> Written:
+    """The instance of a source, or what the library refuses."""
     if source.whole:
         try:
-            return whole_instance(source), []
+            return Written(whole_instance(source), [])
         except (ValueError, KeyError, TypeError, IndexError, AttributeError, RecursionError) as cause:
-            return None, [Told("port", f"the instance can't be read: {cause}")]
+            return Written(None, [Told("port", f"the instance can't be read: {cause}")])
     try:
-        made = port_script.instance_of(("ships", ships_text(source)), ("port", source.base), source.dates)
-        return str(port_script.text_of(made)) + "\n", []
-    except tides_script.Refused as cause:
-        return None, [told_of(line) for line in str(cause).split("\n")]
+        made = port_script.made_of(("ships", ships_text(source)), ("port", source.base), source.dates)
+    except Wrong as wrong:
+        return Written(None, list(map(told_of, wrong.told)))
+    except Refused as cause:
+        return Written(None, [Told("day", f"{cause}")])
+    return Written(port_script.text_of(made.instance) + "\n", list(map(told_of, made.hints)), made.rows)
 
 
-def told_of(line: str) -> Told:
-    """A refusal of port.py at its cell. Its rows count from 1, the header among them."""
-    found = re.fullmatch(r"ships, row ([0-9]+), column (.+?): (.*)", line)
-    if found:
-        row = int(found[1])
-        return Told("ships", found[3], False, row - 2 if row > 1 else None, found[2])
-    said = line.partition(", ")[2] or line
-    if not line.startswith("port, "):
-        return Told("day", said)
-    place = re.match(r"[a-z_]+(?:\.[a-z0-9_]+)*(?=: )", said)
-    return Told("port", said, place=place[0] if place else None)
+def told_of(one: At) -> Told:
+    """What the library tells, at its cell. Its rows count from 1, the header among them."""
+    if one.file == "ships":
+        return Told("ships", one.said, one.hint, one.row - 2 if one.row and one.row > 1 else None, one.column)
+    if one.file != "port":
+        return Told("day", f"{one}", one.hint)
+    place = one.place if one.place is None or re.fullmatch(r"[a-z_]+(?:\.[a-z0-9_]+)*", one.place) else None
+    return Told("port", f"{one}".removeprefix("port, "), one.hint, place=place)
 
 
 def tides_text(source: Source, instance: str | None) -> tuple[str | None, list[Told]]:
@@ -248,28 +268,31 @@ def tides_text(source: Source, instance: str | None) -> tuple[str | None, list[T
         return source.table, []
     try:
         base = json.loads(source.base)
-        start, minutes = str(base["start"]), str(base["slot_minutes"])
+        start, minutes, said = start_of(base["start"]), int(base["slot_minutes"]), base.get("tides") or {}
         heights = json.loads(instance).get("heights") if instance else base.get("heights")
-    except (ValueError, KeyError, TypeError):
+        options = Options(source.dates or base.get("dates"), bool(said.get("feet")), heights == "start", bool(said.get("one_clock")))
+    except (ValueError, KeyError, TypeError, AttributeError, Misplaced):
         return None, [Told("tide", "printed waters need the port's start and slot_minutes")]
-    with tempfile.TemporaryDirectory() as folder:
-        words = (["--dates", source.dates] if source.dates else []) + (["--least"] if heights == "start" else []) + [start, minutes]
-        for number, one in enumerate(source.lists):
-            path = os.path.join(folder, f"waters {number}")
-            with open(path, "w", encoding="utf-8") as file:
-                file.write(one["text"])
-            words.append(f"{one['waypoint']}={path}{one['differences'].strip()}")
-        try:
-            return "\n".join(tides_script.lines_of(words)) + "\n", []
-        except (tides_script.Refused, UnicodeError) as cause:
-            said = re.sub(rf"{re.escape(folder)}/waters ([0-9]+)",
-                          lambda found: source.lists[int(found[1])]["waypoint"], f"{cause}")
-            return None, [Told("tide", said)]
+    try:
+        lists = [listing(one) for one in source.lists]
+        return "\n".join(table_of(lists, start, minutes, options)) + "\n", []
+    except (Refused, UnicodeError, ZeroDivisionError) as cause:
+        return None, [Told("tide", f"{cause}")]
 
 
-def placed(fault: Fault, source: Source) -> Told:
+def listing(one: dict[str, str]) -> Listing:
+    """A list of waters, with its differences; it is called by its waypoint."""
+    waypoint = one["waypoint"]
+    change = listing_of(f"{waypoint}=list{one['differences'].strip()}").change
+    return Listing(waypoint, waypoint, waypoint, change, one["text"].encode())
+
+
+def placed(fault: Fault, source: Source, rows: list[Row]) -> Told:
     """A fault of the program at its cell: its ships count from 0, blank rows not among them."""
     found = re.fullmatch(r"ships\.([0-9]+)(?:\.([a-z_]+))?.*", fault.place)
+    if found and int(found[1]) < len(rows):
+        row = rows[int(found[1])]
+        return Told("ships", fault.said, fault.hint, row.number - 2, row.head(found[2] or "name"))
     if found:
         filled = [number for number, row in enumerate(source.rows) if any(cell.strip() for cell in row)]
         ship = int(found[1])
@@ -282,12 +305,13 @@ def placed(fault: Fault, source: Source) -> Told:
 
 def make(source: Source, program: Program) -> Made:
     """The two files of a source, and all that is told of them: by the scripts, and by the program's own `lint`."""
-    instance, told = instance_text(source)
+    written = instance_text(source)
+    instance, told = written.text, list(written.told)
     tides, more = tides_text(source, instance)
     told += more
     if instance is None or tides is None:
         return Made(instance, tides, told)
     store = program.store
     said = program.ask("lint", Text(store.put(instance.encode()), "day.json"), Text(store.put(tides.encode()), "tides.csv"))
-    told += [placed(fault, source) for fault in faults_of(said.output)]
+    told += [placed(fault, source, written.rows) for fault in faults_of(said.output)]
     return Made(instance, tides, told)

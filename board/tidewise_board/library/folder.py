@@ -11,8 +11,9 @@
 from __future__ import annotations
 
 import os
+import stat
 from collections.abc import Callable
-from dataclasses import dataclass, field
+from dataclasses import dataclass, field, replace
 from typing import TypeVar
 
 from .base import Port, read_port
@@ -121,8 +122,12 @@ class Reading:
             raise Wrong(Told(name, "this isn't text in UTF-8; a spreadsheet saves that as CSV UTF-8")) from None
 
     def bytes(self, name: str) -> bytes:
+        path = os.path.join(self.root, name)
         try:
-            with open(os.path.join(self.root, name), "rb") as file:
+            # A pipe would never end.
+            if not stat.S_ISREG(os.stat(path).st_mode):
+                raise Wrong(Told(name, "this is no file"))
+            with open(path, "rb") as file:
                 data = file.read(MOST_BYTES + 1)
         except OSError as fault:
             raise Wrong(Told(name, fault.strerror or "it can't be read")) from None
@@ -239,6 +244,19 @@ def calls_in(made: Made) -> list[Call]:
     return [Call(ships[incoming]["name"].removesuffix(" in"), incoming, outgoing) for incoming, outgoing in made.calls]
 
 
+# How an option of the scripts is said in a folder.
+SAID = {"(--dates dmy or mdy?)": '("dates": "dmy" or "mdy" in port.json?)',
+        "(--one-clock if neither)": '("tides": {"one_clock": true} in port.json if neither)'}
+
+
+def in_folder(told: Told) -> Told:
+    """What is told, with members of port.json where the scripts have options."""
+    said = told.said
+    for option, member in SAID.items():
+        said = said.replace(option, member)
+    return replace(told, said=said)
+
+
 def look(root: str, day: str | None = None) -> Looked:
     """All that is told of a port's folder, and what it says if there is no fault. `day` is the date of slot 0, as 2027-03-15; without
     it that is what port.json says."""
@@ -251,6 +269,7 @@ def look(root: str, day: str | None = None) -> Looked:
     log = reading.tried(log_of, reading)
     if made is not None:
         reading.told += made.hints
+    reading.told = list(map(in_folder, reading.told))
     if made is None or tides is None or log is None:
         return Looked(reading.told, None)
     clock = Clock(made.port.start, made.port.minutes, made.port.slots)

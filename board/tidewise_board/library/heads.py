@@ -64,17 +64,21 @@ def converted(text: str, column: str, unit: str) -> tuple[str, bool]:
     return str(whole), whole != exact
 
 
+def under_head(rows: list[list[str]]) -> list[tuple[int, list[str]]]:
+    """The rows from the head on, each with its number from 1. What stands above the head is empty, or one cell that begins with #."""
+    numbered = list(enumerate(rows, 1))
+    while numbered and (not any(numbered[0][1]) or numbered[0][1][0].startswith("#") and not any(numbered[0][1][1:])):
+        del numbered[0]
+    return numbered
+
+
 class Table:
     """A table of ships: the heads, and its rows. Hints are told of each cell that was rounded."""
 
     def __init__(self, name: str, text: str, known: tuple[list[str], list[str]]) -> None:
         """`known` has the columns of a table with a row for each movement, and of one with a row for each call."""
         self.name, self.hints = name, list[Told]()
-        rows = list(enumerate(cells_of(text), 1))
-        # What stands above the head.
-        while rows and (not any(rows[0][1]) or rows[0][1][0].startswith("#") and not any(rows[0][1][1:])):
-            del rows[0]
-        (self.head_row, written), *self.cells = rows or [(1, list[str]())]
+        (self.head_row, written), *self.cells = under_head(cells_of(text)) or [(1, list[str]())]
         self.heads = [column_of(head) for head in written]
         self.written = written
         columns = [column for column, _ in self.heads]

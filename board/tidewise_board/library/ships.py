@@ -124,10 +124,16 @@ def ships_in(rows: list[Row], port: Port, name: str) -> tuple[list[Ship], list[T
             ships.append(ship)
             told += hints_on(row, ship["name"], name)
         except Fault as fault:
-            faults.append(Told(name, fault.cause, row=row.number, column=row.head(str(fault.place[0]))))
+            column = str(fault.place[0])
+            faults.append(Told(name, fault.cause + unit_of(row, column), row=row.number, column=row.head(column)))
     if faults:
         raise Wrong(*faults)
     return ships, told
+
+
+def unit_of(row: Row, column: str) -> str:
+    """The unit of the numbers in a fault, where the head has another one."""
+    return f" {NUMBERS[column]}" if column in NUMBERS and row.head(column).lower() != column else ""
 
 
 def hints_on(row: Row, said: str, name: str) -> list[Told]:
