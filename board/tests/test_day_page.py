@@ -161,6 +161,18 @@ def test_a_json_with_a_fault_keeps_the_form_away(planner: Planner) -> None:
     assert "The JSON has a fault, mend it there" in planner.text("p-port") and not planner.at("plan").is_enabled()
 
 
+def test_a_json_of_other_kinds(planner: Planner) -> None:
+    """A member that is none of a port's leaves the page at work, and is told."""
+    planner.drop("calls.csv", "calls-port.json", "waters-bar.txt", "waters-berth.txt")
+    for base in ('{"routes": [null], "turnaround": null}', "5", "[]", '{"waypoints": 5, "closed": 7, "separation": [1, null]}'):
+        planner.at("t-json").click()
+        planner.driver.execute_script("""const area = document.getElementById('base'); area.value = arguments[0];
+            area.dispatchEvent(new Event('input', {bubbles: true}))""", base)
+        wait(lambda: planner.driver.find_elements(By.CSS_SELECTOR, "#told button:not(.hinted)"))
+        planner.at("t-port").click()
+        assert planner.text("p-port") and not planner.at("plan").is_enabled(), base
+
+
 def test_a_race_of_seeds(planner: Planner, tmp_path: Any) -> None:
     """A day that takes long is searched by several seeds; Stop ends all of them, and the best of them is the plan."""
     paths = []
