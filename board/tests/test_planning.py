@@ -13,6 +13,7 @@ from tidewise_board.core import days, race
 from tidewise_board.core.differences import differences
 from tidewise_board.core.lanes import Stay, lanes
 from tidewise_board.core.loading import loading, to_load, when
+from tidewise_board.core.pins import pinned
 from tidewise_board.core.program import Program
 from tidewise_board.core.reading import Verdict, windows_of
 from tidewise_board.core.runs import ENDED, Inputs, Runs
@@ -127,6 +128,26 @@ def test_the_first_to_close_a_day_ends_the_others(runs: Runs, store: Store, cont
     assert race.settle(runs, leader) == winner and race.winner(runs, leader) == winner
     assert [row["id"] for row in store.rows("SELECT id FROM run WHERE kind = 'plan'")] == [winner]
     runs.races.discard(leader)
+
+
+def test_pins_race_too(runs: Runs, store: Store, long: Inputs) -> None:
+    """The run that stands is a pin of the same plan, with the same ships held; the second checker, which takes no repair, isn't asked."""
+    first = runs.begin(1, long, "plan", "hard", 20000)
+    end = time.monotonic() + 60
+    while not ((found := runs.followers.get(first)) and found.best) and time.monotonic() < end:
+        time.sleep(0.05)
+    runs.stop(first)
+    runs.wait(first)
+    plan = store.put(pinned(runs.timetable(first) or [], {0: 25}, None).encode())
+    pin = race.join(runs, lambda: runs.begin(1, Inputs(long.instance, long.tides, plan), "pin", "held", 100000, None, first, {0: 25}))
+    while len(race.members(runs, pin)) < 2 and pin in runs.races and time.monotonic() < end:
+        time.sleep(0.05)
+    race.stop(runs, pin)
+    over(runs, pin)
+    standing = runs.get(race.winner(runs, pin))
+    assert standing["kind"] == "pin" and (standing["base"], standing["plan"], json.loads(standing["pins"])) == (first, plan, {"0": 25})
+    others = [runs.get(one) for one in race.members(runs, pin) if one != standing["id"]]
+    assert others and all(one["kind"] == "race" and one["plan"] == plan and one["second"] is None for one in others)
 
 
 def test_a_race_survives_its_board(store: Store, program: Program, long: Inputs) -> None:

@@ -25,17 +25,18 @@ export class Happened {
   /** Takes a ship that was pointed at in the picture. */
   take(ship) {
     const {kind, ship: field} = this.form.elements;
-    if (!['sailed', 'not before', 'stays'].includes(kind.value)) kind.value = 'sailed';
+    if (!['sailed', 'not before', 'stays', 'surveyed'].includes(kind.value)) kind.value = 'sailed';
     field.value = this.ships[ship];
     this.fields('ship');
     kind.focus();
   }
 
   asked() {
-    const {kind, ship, count, where, slot, first, last} = this.form.elements, number = (field) => Number(field.value);
+    const {kind, ship, count, where, slot, first, last, deep} = this.form.elements, number = (field) => Number(field.value);
     const end = last.value === '' ? null : number(last);
     return {kind: kind.value, ...{
       sailed: {ship: ship.value, slot: number(slot)}, 'not before': {ship: ship.value, slot: number(slot)}, stays: {ship: ship.value},
+      surveyed: {ship: ship.value, deep: Math.round(100 * number(deep))},
       'tugs out': {count: number(count), first: number(first), last: end}, 'tugs back': {count: number(count), slot: number(slot)},
       closed: {where: where.value || null, first: number(first), last: end},
     }[kind.value]};
