@@ -1,0 +1,35 @@
+"""The crates of the repository, as crates.txt lists them: by rooms, each with what it stands on."""
+from __future__ import annotations
+
+import pathlib
+
+
+def listed(file: pathlib.Path) -> dict[str, list[str]]:
+    """Each crate with the crates that its row names, in the order of the file. Blank rows and headings are skipped."""
+    rows = (row.partition(":") for row in file.read_text().splitlines() if row.strip() and not row.startswith("#"))
+    return {crate.strip(): names.split() for crate, _, names in rows}
+
+
+def below(crate: str, crates: dict[str, list[str]]) -> set[str]:
+    """The crates of this list on which a crate stands."""
+    found: set[str] = set()
+    todo = list(crates[crate])
+    while todo:
+        name = todo.pop()
+        if name in crates and name not in found:
+            found.add(name)
+            todo += crates[name]
+    return found
+
+
+def longest_chain(crates: dict[str, list[str]]) -> list[str]:
+    """The most crates each of which stands on the next one."""
+    chains: dict[str, list[str]] = {}
+
+    def chain(crate: str) -> list[str]:
+        if crate not in chains:
+            lower = [chain(name) for name in crates[crate] if name in crates]
+            chains[crate] = [crate, *max(lower, key=len, default=[])]
+        return chains[crate]
+
+    return max(map(chain, crates), key=len, default=[])
