@@ -11,6 +11,7 @@ import antt_names
 import crate_list
 import rt_items
 import shape_stay
+import twins
 from rt_source import Source
 
 MOST_ARGUMENTS, MOST_CLAUSE, MOST_LINES = 6, 160, 500
@@ -104,6 +105,13 @@ def limits(of: Repository) -> Iterator[str]:
             yield f"{of.place(file, line)}: {number} is {' or '.join(names)}"
 
 
+def twin_list(of: Repository) -> Iterator[str]:
+    kinds = ("function", twins.of_functions(of.sources)), ("definition", twins.of_definitions(of.tree))
+    for kind, groups in kinds:
+        for same in groups:
+            yield f"the same {kind}: " + ", ".join(f"{of.place(it.file, it.line)} {it.name}" for it in same)
+
+
 def chain(of: Repository) -> Iterator[str]:
     names = crate_list.longest_chain(crate_list.listed(of.listed))
     yield f"{len(names)} crates: {', '.join(names)}"
@@ -115,6 +123,7 @@ KINDS: dict[str, Callable[[Repository], Iterator[str]]] = {
     "--equal": equal,
     "--meanings": meanings,
     "--limits": limits,
+    "--twins": twin_list,
     "--chain": chain,
 }
 HARMLESS = ("--tested", "--chain")

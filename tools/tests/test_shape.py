@@ -10,7 +10,7 @@ import shape_lists
 from conftest import Made
 
 SHAPE = pathlib.Path(shape_lists.__file__).with_name("shape")
-WORDS = ["--unused", "--tested", "--equal", "--meanings", "--limits"]
+WORDS = ["--unused", "--tested", "--equal", "--meanings", "--limits", "--twins"]
 
 
 @pytest.fixture
@@ -90,6 +90,19 @@ def test_a_number_that_is_a_limit_by_chance(clean: Made, monkeypatch: pytest.Mon
     assert capsys.readouterr().out == "hw_low/src/most.rt:4: 512 is MOST\n"
     monkeypatch.setattr("shape_stay.BY_CHANCE", {("hw_low/src/most.rt", "512"): "bytes of a block"})
     assert shape_lists.main(["--limits"], clean.top) == 0
+
+
+def test_twins_are_listed_with_their_places(made: Made, capsys: pytest.CaptureFixture[str]) -> None:
+    text = "\nfn whole(slot: u32) -> u32 {\n    slot.saturating_mul(1_000_000)\n}\n"
+    made.crate("hw_one", {"src/lib.rt": text})
+    made.crate("hw_two", {"src/lib.rt": text.replace("whole", "full"), "specs/A.antt": "", "specs/B.antt": ""})
+    for name in ("A", "B"):
+        made.put(f"crates/hw_two/specs/{name}.antt", f"-- {name}\nabbrev pub twice : ℕ → ℕ\ntwice n = at_most n (n + n + n)\n")
+    assert shape_lists.main(["--twins"], made.top) == 1
+    assert capsys.readouterr().out.splitlines() == [
+        "the same function: hw_one/src/lib.rt:2 whole, hw_two/src/lib.rt:2 full",
+        "the same definition: hw_two/specs/A.antt:2 twice, hw_two/specs/B.antt:2 twice",
+    ]
 
 
 def test_the_longest_chain(clean: Made, capsys: pytest.CaptureFixture[str]) -> None:
