@@ -12,7 +12,7 @@ from browser import Planner, Served  # noqa: E402
 
 
 def main(times: int) -> None:
-    board = Served(8459)
+    board = Served()
     planner = Planner(board)
     found: dict[str, list[float]] = {"files to picture": [], "button to verdict": [], "files to verdict": [], "drag to verdict": []}
     try:

@@ -49,7 +49,7 @@ return [...new Set(said)];
 
 @pytest.fixture(scope="module")
 def planner() -> Iterator[Planner]:
-    board = Served(8491)
+    board = Served()
     made = Planner(board)
     yield made
     made.close()

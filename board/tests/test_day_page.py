@@ -12,12 +12,11 @@ from hard import hard
 from selenium.webdriver.common.by import By
 from selenium.webdriver.common.keys import Keys
 
-PORT = 8472
 
 
 @pytest.fixture(scope="module")
 def served() -> Iterator[Served]:
-    board = Served(PORT)
+    board = Served()
     yield board
     board.close()
 

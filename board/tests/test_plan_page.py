@@ -13,12 +13,11 @@ from selenium.webdriver.common.by import By
 from selenium.webdriver.common.keys import Keys
 from selenium.webdriver.support.ui import Select
 
-PORT = 8473
 
 
 @pytest.fixture(scope="module")
 def served() -> Iterator[Served]:
-    board = Served(PORT)
+    board = Served()
     yield board
     board.close()
 

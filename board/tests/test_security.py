@@ -265,7 +265,7 @@ def test_a_program_that_somebody_changed(store: Store, program: Program) -> None
 
 def test_two_boards_on_one_folder(tmp_path: object) -> None:
     folder = os.path.join(str(tmp_path), "data")
-    first = Served(8471, data=folder)
+    first = Served(data=folder)
     try:
         words = [sys.executable, "-m", "tidewise_board.web.serve", "--port", "8472", "--data", folder, "--program", PROGRAM]
         second = subprocess.run(words, cwd=ROOT, capture_output=True, text=True, timeout=60, check=False)

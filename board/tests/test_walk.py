@@ -19,7 +19,7 @@ pytestmark = pytest.mark.walk
 
 @pytest.fixture
 def served(request: pytest.FixtureRequest) -> Iterator[Served]:
-    board = Served(8481)
+    board = Served()
     yield board
     board.close()
 
