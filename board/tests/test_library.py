@@ -155,6 +155,16 @@ class TestCalls:
             "ships.csv, row 4, column arrives: she arrives after the last slot: this call isn't planned",
             "ships.csv, row 5, column sails: she sails after the last slot: that isn't planned"]
 
+    def test_hints(self) -> None:
+        head = HEAD.replace("sails,", "sails by,")
+        rows = ["Ada,cape,2027-03-14 08:00,East,4:00,", "Bob,cape,2027-03-14 06:00,East,4:00,", "Cox,cape,2027-03-14 06:00,West,4:00,2027-03-14 11:00",
+                "Don,cape,2027-03-14 04:00,East,4:00,2027-03-14 20:00", "Eva,cape,2027-03-14 09:40,West,4:00,2027-03-14 14:40"]
+        found = made("\n".join([head, *(f"{row},1000,1100,1720,3,4" for row in rows)]))
+        turns = "she arrives before the ship above her that has East first: turns are in the order of the rows"
+        # Eva is at her berth an hour after she comes, and loads until the slot that begins at 14:40.
+        assert [str(one) for one in found.hints] == ["ships.csv, row 4, column sails by: she can't be loaded by then",
+                                                     f"ships.csv, row 3, column arrives: {turns}", f"ships.csv, row 5, column arrives: {turns}"]
+
     def test_refused(self) -> None:
         def of(*rows: str) -> list[str]:
             return refused("\n".join([HEAD, *rows]))
