@@ -93,6 +93,7 @@ def shut(place: Place, inputs: Inputs, line: str) -> str:
 
 
 def say_clash(answer: dict[str, Any], as_json: bool) -> int:
+    """Prints the clash, and returns the status."""
     if as_json:
         say_json(answer)
     elif answer["fits"]:
@@ -145,9 +146,9 @@ def at_time(place: Place, ship: int, slot: int) -> dict[str, Any]:
     flat = flat_of(place.program.ask("flatten", *inputs.words()).output)
     gone = gone_by(plan, ship, slot, clock) if plan else None
     answer: dict[str, Any] = {
-        "ship": place.folder.port.ships[ship], "time": clock.at(slot), "sails": sails and not gone, "draft_m": draft_of(stretch)[1] / 100 if sails else None,
-        "cargo_t": in_tonnes(flat.values[ship][slot]) if sails else None, "why": gone or (None if sails else not_there(stretch)), "plan": None,
-        "planned": None, "broken": None}
+        "ship": place.folder.port.ships[ship], "time": clock.at(slot), "sails": sails and not gone,
+        "draft_m": draft_of(stretch)[1] / 100 if sails else None, "cargo_t": in_tonnes(flat.values[ship][slot]) if sails else None,
+        "why": gone or (None if sails else not_there(stretch)), "plan": None, "planned": None, "broken": None}
     if plan and answer["sails"]:
         answer.update(compared(place, plan, ship, slot))
     return answer
@@ -177,6 +178,7 @@ def names_in(place: Place, instance: str) -> list[str]:
 
 
 def say_time(here: dict[str, Any]) -> None:
+    """Prints what is said of a ship and a time."""
     if not here["sails"]:
         say(f"{here['ship']} can't sail at {here['time']}: {here['why']}")
         return

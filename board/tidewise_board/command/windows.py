@@ -68,6 +68,7 @@ def instance_of(text: str) -> dict[str, Any]:
 
 
 def slot_of(time: str, clock: Clock) -> int:
+    """The slot in which a time lies; `Refused` where it is outside the day."""
     slot = clock.slot_at(clock.minute(time))
     if not 0 <= slot < clock.slots:
         raise Refused(f"{time} isn't from {clock.at(0)} to {clock.at(clock.slots)}")
@@ -88,6 +89,7 @@ class Answer:
         return max((draft_of(one)[1] for one in self.stretches if one.kind == "from"), default=None)
 
     def members(self) -> dict[str, Any]:
+        """The answer as JSON."""
         found = {"ship": self.ship["name"], "direction": self.ship["direction"], "stretches": list(map(self.stretch, self.stretches))}
         if self.draft is not None:
             found["load"] = {"draft_m": self.draft / 100, "times": [self.between(*times) for times in self.times]}
@@ -97,12 +99,14 @@ class Answer:
         return {"from": self.clock.at(first), "to": self.clock.at(last)}
 
     def stretch(self, one: Stretch) -> dict[str, Any]:
+        """A stretch as JSON."""
         if one.kind != "from":
             return {**self.between(one.first, one.last), "why": why_not(one)}
         least, greatest = draft_of(one)
         return {**self.between(one.first, one.last), "least_m": least / 100, "greatest_m": greatest / 100, "full": one.said.endswith(" full")}
 
     def lines(self) -> list[str]:
+        """The answer in lines."""
         ship = self.ship
         drafts = metres(ship["light"]) if ship["direction"] == "incoming" else f"{metres(ship['light'])} to {metres(ship['deep'])}"
         lines = [f"{ship['name']}, {ship['direction']}, {drafts} m"]
@@ -152,6 +156,7 @@ class Windows:
         self.ships: list[dict[str, Any]] = instance_of(self.instance)["ships"]
 
     def answer(self, ship: int, draft: int | None) -> Answer:
+        """What is said of a ship, and of a draft in centimetres, if one is asked for."""
         here = self.ships[ship]
         if self.slot is not None:
             return Answer(here, self.at(ship, self.slot), self.place.folder.clock)

@@ -73,6 +73,7 @@ class Clock:
         return self.day(rest).toordinal() * DAY + clock - self.start
 
     def weekday(self, name: str, clock: int, first: int) -> int:
+        """The minute from slot 0 of a time on the next day of this name, not before `first`, a minute from year 1."""
         wanted = DAYS.index(name[:3].lower())
         ordinal = first // DAY + (wanted - date.fromordinal(first // DAY).weekday()) % 7
         moment = ordinal * DAY + clock
@@ -95,6 +96,7 @@ class Clock:
 
     @staticmethod
     def made(year: int, month: int, day: int) -> date | None:
+        """The date, if there is one."""
         try:
             return date(year, month, day)
         except ValueError:

@@ -122,6 +122,7 @@ class Reading:
             raise Wrong(Told(name, "this isn't text in UTF-8; a spreadsheet saves that as CSV UTF-8")) from None
 
     def bytes(self, name: str) -> bytes:
+        """A file's bytes, which are kept as one that was read."""
         path = os.path.join(self.root, name)
         try:
             # A pipe would never end.

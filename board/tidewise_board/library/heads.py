@@ -103,6 +103,7 @@ class Table:
                 yield self.row(number, cells + [""] * (len(self.heads) - len(cells)))
 
     def row(self, number: int, cells: list[str]) -> Row:
+        """A row by its columns, in the units of an instance."""
         found, heads = {}, {}
         for (column, unit), head, cell in zip(self.heads, self.written, cells):
             if column.startswith("#"):
@@ -112,6 +113,7 @@ class Table:
         return Row(number, found, heads)
 
     def in_units(self, number: int, head: str, column: str, unit: str, cell: str) -> str:
+        """A cell in the unit of an instance; a hint is told where it was rounded."""
         try:
             text, rounded = converted(cell, column, unit)
         except Refused as cause:

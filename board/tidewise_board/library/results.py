@@ -22,6 +22,7 @@ def tonnes(value: int | None) -> str:
 
 
 def result_of(report: str) -> Result:
+    """What a report says; the word is its first line where it is none of the known ones."""
     if re.match(r"bad instance ships\.[0-9]{1,9}\.(latest order|earliest range)\n", report):
         return "no slot is left", None, None
     number = r"([0-9]{1,18}\.[0-9])"
