@@ -13,8 +13,9 @@ from ..core import race
 from ..core.parts import Share
 from ..core.pins import why_not
 from ..core.plans import accept, files_of, last_plan, told_of
-from ..core.reading import Verdict
+from ..core.reading import Unread, Verdict
 from ..core.runs import BUDGETS, Runs
+from ..core.store import Damaged
 from ..library.faults import Refused
 from .common import Place, alone, near, place_of, port_options, say, say_json
 from .day import INFEASIBLE, Frozen, answer_of, check, day_number, freeze, say_answer, status_of, user
@@ -53,6 +54,14 @@ def rank(said: Verdict | None) -> tuple[bool, int, int]:
     return said.closed, -1 if said.cargo is None else said.cargo, 0 if said.bound is None else -said.bound
 
 
+def verdict(runs: Runs, number: int, fresh: bool = False) -> Verdict | None:
+    """What `verify` says of a run; None where that can't be said, since what is kept was changed."""
+    try:
+        return runs.verdict(number, fresh)
+    except (Damaged, Unread, OSError):
+        return None
+
+
 def same_inputs(runs: Runs, plan: sqlite3.Row, frozen: Frozen) -> bool:
     run = runs.get(plan["run"])
     return (run["instance"], run["tides"], run["plan"]) == (frozen.inputs.instance, frozen.inputs.tides, None)
@@ -63,7 +72,7 @@ def kept_before(runs: Runs, frozen: Frozen) -> sqlite3.Row | None:
     last = last_plan(runs.store, frozen.day)
     if last is None or not same_inputs(runs, last, frozen):
         return None
-    said = runs.verdict(last["run"], True)
+    said = verdict(runs, last["run"], True)
     return last if said is not None and said.closed else None
 
 
@@ -78,7 +87,7 @@ def search(runs: Runs, frozen: Frozen, label: str, wanted: Wanted) -> int:
 def made_plan(runs: Runs, frozen: Frozen, number: int) -> sqlite3.Row:
     """Makes the run the day's plan, unless the last one is of the same inputs and as good."""
     last = last_plan(runs.store, frozen.day)
-    if last is not None and same_inputs(runs, last, frozen) and rank(runs.verdict(last["run"])) >= rank(runs.verdict(number)):
+    if last is not None and same_inputs(runs, last, frozen) and rank(verdict(runs, last["run"])) >= rank(verdict(runs, number)):
         return last
     return accept(runs, number, user())
 

@@ -14,7 +14,7 @@ from pathlib import Path
 
 from .program import NO_ENVIRONMENT, Failed, Program
 from .progress import whole_lines
-from .runs import PIDS, start_of
+from .runs import PIDS, end, start_of
 
 # Statuses of the program: the day is closed, or its budget was spent.
 CLOSED, OPEN = (0, 1), 2
@@ -78,9 +78,11 @@ class Work:
         self.running[0] = process
         self.note()
         began = time.monotonic()
+        asked = None
         while process.poll() is None:
             if self.ended() or time.monotonic() - began > STEP_PATIENCE:
-                process.terminate()
+                asked = asked or time.monotonic()
+                end(process, asked)
             time.sleep(BEAT)
         del self.running[0]
         return process.returncode
@@ -91,10 +93,11 @@ class Work:
             file.writelines(f"{one.pid} {start_of(one.pid)}\n" for one in self.running.values())
 
     def close(self) -> None:
-        for process in self.running.values():
-            process.terminate()
-        for process in self.running.values():
-            process.wait()
+        began = time.monotonic()
+        while any(process.poll() is None for process in self.running.values()):
+            for process in self.running.values():
+                end(process, began)
+            time.sleep(BEAT)
         self.running.clear()
 
     def said(self, name: str) -> str:
@@ -130,12 +133,13 @@ def begin(work: Work, instance: bytes, tides: bytes, share: Share) -> Begun:
 
 def search(work: Work, begun: Begun, share: Share, processes: int) -> None:
     """The parts side by side. What one leaves that was ended is kept by its whole lines."""
-    waiting = list(range(1, begun.count + 1))
+    waiting, asked = list(range(1, begun.count + 1)), None
     while waiting or work.running:
         if work.ended():
+            asked = asked or time.monotonic()
             waiting.clear()
             for process in work.running.values():
-                process.terminate()
+                end(process, asked)
         while waiting and len(work.running) < processes:
             part = waiting.pop(0)
             work.running[part] = work.start(["part", *SUBJECT, SPLIT, str(part), START, str(share.budget), f"part-{part}.cert"], f"part-{part}.out")

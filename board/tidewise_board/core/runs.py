@@ -25,6 +25,8 @@ PIDS = "pids"
 # How often a certificate is looked at, in seconds, and how long the second checker may take.
 BEAT = 0.1
 SECOND_PATIENCE = 600
+# Seconds that a process has to end by itself once it was asked to.
+GRACE = 5.0
 BUDGETS = range(1, 100001)
 # The state of a run that ended by itself, was stopped, or ended with the board.
 ENDED = ("done", "stopped", "interrupted", "failed")
@@ -76,6 +78,14 @@ def noted_pids(folder: str | None) -> list[tuple[int, str]]:
     except OSError:
         return []
     return [(int(line[0]), line[1]) for line in lines if len(line) == 2 and line[0].isdigit()]
+
+
+def end(process: subprocess.Popen[bytes], asked: float) -> None:
+    """Asks a process to end, and after a while ends it; `asked` is when that began."""
+    if time.monotonic() - asked < GRACE:
+        process.terminate()
+    else:
+        process.kill()
 
 
 class Runs:
@@ -188,9 +198,11 @@ class Runs:
             process = self.program.start(self.words_of(run), folder)
             self._set(number, state="running", folder=folder, pid=process.pid, pid_start=start_of(process.pid), began=time.time())
             self.followers[number] = follower
+        asked = None
         while process.poll() is None:
             if number in self.asked or self.ending:
-                process.terminate()
+                asked = asked or time.monotonic()
+                end(process, asked)
             follower.look()
             try:
                 process.wait(BEAT)
