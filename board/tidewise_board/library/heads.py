@@ -65,9 +65,10 @@ def converted(text: str, column: str, unit: str) -> tuple[str, bool]:
 
 
 def under_head(rows: list[list[str]]) -> list[tuple[int, list[str]]]:
-    """The rows from the head on, each with its number from 1. What stands above the head is empty, or one cell that begins with #."""
+    """The rows from the head on, each with its number from 1. What stands above the head is empty, or one cell that begins with #, or the
+    `sep=;` of a spreadsheet."""
     numbered = list(enumerate(rows, 1))
-    while numbered and (not any(numbered[0][1]) or numbered[0][1][0].startswith("#") and not any(numbered[0][1][1:])):
+    while numbered and (not any(numbered[0][1]) or numbered[0][1][0].startswith(("#", "sep=")) and not any(numbered[0][1][1:])):
         del numbered[0]
     return numbered
 
