@@ -9,11 +9,12 @@ from typing import Any, NoReturn
 import click
 
 from ..core.reading import Verdict, tonnes
-from ..core.shown import headline
+from ..core.shown import headline, triple
 from ..core.worth import Planned, Planning
 from ..library.bars import Bar, bars
 from ..library.faults import Refused
 from ..library.port import text_of
+from ..library.results import limits
 from ..library.trying import __doc__ as changes
 from ..library.trying import changes_of
 from ..library.whatif import processors
@@ -90,10 +91,7 @@ class Worth:
 
     def limits(self, said: Verdict | None) -> tuple[int | None, int | None]:
         """By how much a change carries at least and at most more, as far as the two verdicts tell."""
-        if said is None:
-            return None, None
-        return (None if said.cargo is None or self.base.bound is None else said.cargo - self.base.bound,
-                None if said.bound is None or self.base.cargo is None else said.bound - self.base.cargo)
+        return limits(triple(self.base), triple(said))
 
     def difference(self, said: Verdict | None) -> str:
         """What a change carries more, in tonnes: a number, or its limits."""

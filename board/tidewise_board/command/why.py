@@ -17,7 +17,7 @@ from ..library.clock import Clock
 from ..library.faults import Refused
 from .common import Place, asking_options, in_tonnes, place_of, say, say_json, ship_names, warn
 from .day import dated, standing
-from .windows import Windows, draft_of, slot_of, why_not as not_there
+from .windows import Windows, slot_of, why_not as not_there
 
 FITS, CLASHES, UNFINISHED = 0, 1, 2
 
@@ -147,7 +147,7 @@ def at_time(place: Place, ship: int, slot: int) -> dict[str, Any]:
     gone = gone_by(plan, ship, slot, clock) if plan else None
     answer: dict[str, Any] = {
         "ship": place.folder.port.ships[ship], "time": clock.at(slot), "sails": sails and not gone,
-        "draft_m": draft_of(stretch)[1] / 100 if sails else None, "cargo_t": in_tonnes(flat.values[ship][slot]) if sails else None,
+        "draft_m": stretch.drafts[1] / 100 if sails else None, "cargo_t": in_tonnes(flat.values[ship][slot]) if sails else None,
         "why": gone or (None if sails else not_there(stretch)), "plan": None, "planned": None, "broken": None}
     if plan and answer["sails"]:
         answer.update(compared(place, plan, ship, slot))

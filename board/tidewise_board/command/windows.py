@@ -86,7 +86,7 @@ class Answer:
     @property
     def greatest(self) -> int | None:
         """The greatest draft with which she may sail in some slot."""
-        return max((draft_of(one)[1] for one in self.stretches if one.kind == "from"), default=None)
+        return max((one.drafts[1] for one in self.stretches if one.kind == "from"), default=None)
 
     def members(self) -> dict[str, Any]:
         """The answer as JSON."""
@@ -102,7 +102,7 @@ class Answer:
         """A stretch as JSON."""
         if one.kind != "from":
             return {**self.between(one.first, one.last), "why": why_not(one)}
-        least, greatest = draft_of(one)
+        least, greatest = one.drafts
         return {**self.between(one.first, one.last), "least_m": least / 100, "greatest_m": greatest / 100, "full": one.said.endswith(" full")}
 
     def lines(self) -> list[str]:
@@ -130,14 +130,8 @@ def why_not(one: Stretch) -> str:
     return one.said if one.kind == OWN else said_of(one.kind, one.said)
 
 
-def draft_of(one: Stretch) -> tuple[int, int]:
-    """The least and the greatest draft of `from S M to S M draft LEAST GREATEST full`."""
-    words = one.said.split(" ")
-    return int(words[7]), int(words[8])
-
-
 def drafts_said(one: Stretch) -> str:
-    least, greatest = draft_of(one)
+    least, greatest = one.drafts
     return f"{metres(least)} to {metres(greatest)} m" if least < greatest else f"{metres(greatest)} m"
 
 

@@ -78,8 +78,8 @@ def _told(program: Program, inputs: Inputs, ship: int) -> list[At]:
 
 
 def _draft(stretch: Stretch) -> int | None:
-    """The greatest draft of a stretch, `from S M to S M draft LEAST GREATEST full`."""
-    return int(stretch.said.split(" ")[8]) if stretch.kind == "from" else None
+    """The greatest draft with which she sails in a stretch; None of one in which she can't."""
+    return stretch.drafts[1] if stretch.kind == "from" else None
 
 
 def when(program: Program, inputs: Inputs, ship: int, draft: int) -> list[Stretch]:
