@@ -7,7 +7,7 @@ from typing import Any
 
 import click
 
-from ..core.facts import in_words, matrix, said_of
+from ..core.facts import Port, in_words, matrix, said_of
 from ..core.pins import why_not
 from ..core.plans import own_inputs
 from ..core.reading import clash_of, flat_of, restrictions_of, timetable_of, windows_of
@@ -68,7 +68,8 @@ def clash(place: Place) -> dict[str, Any]:
     for number in found.kept:
         without = {port.ships[ship]: port.clock(slot) for ship, slot in enumerate(found.drops.get(number, []))
                    if slot < port.slots and concerned(ship, found.kept, lines)}
-        answer["kept"].append({"said": in_words(lines[number], port) + shut(place, inputs, lines[number]), "without": without})
+        shut = never(place, inputs, lines[number], port)
+        answer["kept"].append({"said": in_words(lines[number], port) + shut, "without": without})
     return answer
 
 
@@ -81,7 +82,7 @@ def concerned(ship: int, kept: list[int], lines: list[str]) -> bool:
     return False
 
 
-def shut(place: Place, inputs: Inputs, line: str) -> str:
+def never(place: Place, inputs: Inputs, line: str, port: Port) -> str:
     """Of a ship that can sail in none of her slots, why not."""
     kind, *words = line.split(" ")
     if kind != "window":
@@ -89,7 +90,7 @@ def shut(place: Place, inputs: Inputs, line: str) -> str:
     stretches = windows_of(place.program.ask("windows", "port", *inputs.words()).output)[int(words[0])]
     if any(one.kind == "from" for one in stretches):
         return ""
-    return ": she can't sail at all: " + "; ".join(dict.fromkeys(said_of(one.kind, one.said) for one in stretches))
+    return ": she can't sail at all: " + "; ".join(dict.fromkeys(said_of(one.kind, one.said, port.clock) for one in stretches))
 
 
 def say_clash(answer: dict[str, Any], as_json: bool) -> int:
@@ -148,7 +149,7 @@ def at_time(place: Place, ship: int, slot: int) -> dict[str, Any]:
     answer: dict[str, Any] = {
         "ship": place.folder.port.ships[ship], "time": clock.at(slot), "sails": sails and not gone,
         "draft_m": stretch.drafts[1] / 100 if sails else None, "cargo_t": in_tonnes(flat.values[ship][slot]) if sails else None,
-        "why": gone or (None if sails else not_there(stretch)), "plan": None, "planned": None, "broken": None}
+        "why": gone or (None if sails else not_there(stretch, clock)), "plan": None, "planned": None, "broken": None}
     if plan and answer["sails"]:
         answer.update(compared(place, plan, ship, slot))
     return answer

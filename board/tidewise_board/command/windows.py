@@ -101,7 +101,7 @@ class Answer:
     def stretch(self, one: Stretch) -> dict[str, Any]:
         """A stretch as JSON."""
         if one.kind != "from":
-            return {**self.between(one.first, one.last), "why": why_not(one)}
+            return {**self.between(one.first, one.last), "why": why_not(one, self.clock)}
         least, greatest = one.drafts
         return {**self.between(one.first, one.last), "least_m": least / 100, "greatest_m": greatest / 100, "full": one.said.endswith(" full")}
 
@@ -111,7 +111,7 @@ class Answer:
         drafts = metres(ship["light"]) if ship["direction"] == "incoming" else f"{metres(ship['light'])} to {metres(ship['deep'])}"
         lines = [f"{ship['name']}, {ship['direction']}, {drafts} m"]
         for one in self.stretches:
-            lines.append(f"  {self.said(one.first, one.last)}  {drafts_said(one) if one.kind == 'from' else why_not(one)}")
+            lines.append(f"  {self.said(one.first, one.last)}  {drafts_said(one) if one.kind == 'from' else why_not(one, self.clock)}")
         if self.draft is not None:
             full = " (full)" if self.draft == ship["deep"] else ""
             lines.append(f"  to load to {metres(self.draft)}{full}: "
@@ -125,9 +125,9 @@ class Answer:
         return self.clock.short(first) + ("" if first == last else f" to {self.clock.short(last)}")
 
 
-def why_not(one: Stretch) -> str:
+def why_not(one: Stretch, clock: Clock) -> str:
     """Why she can't sail in a stretch."""
-    return one.said if one.kind == OWN else said_of(one.kind, one.said)
+    return one.said if one.kind == OWN else said_of(one.kind, one.said, clock.short)
 
 
 def drafts_said(one: Stretch) -> str:
