@@ -185,6 +185,15 @@ def test_a_race_of_seeds(planner: Planner, tmp_path: Any) -> None:
     assert planner.at("race").is_selected()
     planner.at("plan").click()
     wait(lambda: "searches, " in planner.text("state") and "none above" in planner.text("state"))
+    # A page that is loaded anew follows the search that is under way; so does the page of its plan.
+    day = planner.driver.current_url
+    planner.driver.refresh()
+    wait(lambda: planner.at("stop").is_enabled() and "searches, " in planner.text("state"))
+    assert not planner.at("plan").is_enabled()
+    planner.go(f"/day/{day.rsplit('/', 1)[1]}/latest")
+    wait(lambda: planner.text("headline") == "planning" and "not verified yet" in planner.text("meaning"))
+    planner.driver.get(day)
+    wait(lambda: planner.at("stop").is_enabled())
     planner.at("stop").click()
     wait(lambda: "/plan/" in planner.driver.current_url and planner.text("headline").startswith("Not proved best: "))
     number = planner.settled()
