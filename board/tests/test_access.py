@@ -1,12 +1,19 @@
 """What a screen reader and weak eyes need, on each page: names, labels, one heading, no id twice, and text that stands out from its ground."""
 from __future__ import annotations
 
+import base64
+import json
+import os
 from collections.abc import Iterator
+from datetime import datetime, timedelta
 from typing import Any
 
 import pytest
-from browser import Planner, Served, scheme, sized, wait
+from browser import Planner, Served, chromium, scheme, sized, wait
+from conftest import example
 from selenium.webdriver.common.by import By
+from selenium.webdriver.support.ui import Select
+from tidewise_board.web.guard import reader_of
 
 CONTROLS = ("button", "textbox", "combobox", "slider", "spinbutton", "link", "tab", "tabpanel", "region", "table", "checkbox", "dialog", "list",
             "img", "figure")
@@ -123,6 +130,84 @@ def test_no_page_is_wider_than_its_window(planner: Planner, pages: list[str], wi
             wide[page] = more
     sized(planner.driver, 1280, 900)
     assert wide == {}
+
+
+@pytest.mark.parametrize("files", [("day.json", "day-tides.csv"), ("thirty.json", "thirty-tides.csv")])
+def test_the_sheet_is_one_page(planner: Planner, files: tuple[str, ...]) -> None:
+    """Of ten ships and of thirty; in print nothing of the page but the sheet is seen, on white also where the screen is dark."""
+    planner.drop(*files)
+    planner.plan()
+    planner.at("accept").click()
+    planner.underway()
+    planner.driver.find_element(By.LINK_TEXT, "Issue").click()
+    wait(lambda: planner.driver.find_element(By.XPATH, "//button[text()='Issue plan 1']")).click()
+    wait(lambda: planner.driver.find_element(By.LINK_TEXT, "Print sheet")).click()
+    wait(lambda: planner.driver.execute_script("return document.body.dataset.ready") == "yes")
+    scheme(planner.driver, True)
+    ground = planner.driver.execute_script("""const svg = document.querySelector('.picture').shadowRoot.querySelector('svg');
+        return [...svg.querySelectorAll('text')].map((one) => getComputedStyle(one).fill).find((fill) => fill !== 'none')""")
+    assert ground in ("rgb(22, 34, 46)", "rgb(82, 97, 112)"), ground
+    scheme(planner.driver, False)
+    paper = base64.b64decode(planner.driver.execute_cdp_cmd("Page.printToPDF", {"printBackground": True, "preferCSSPageSize": True})["data"])
+    assert paper.count(b"/Type /Page\n") == 1
+    planner.driver.execute_cdp_cmd("Emulation.setEmulatedMedia", {"media": "print", "features": [{"name": "prefers-color-scheme", "value": "dark"}]})
+    seen = planner.driver.execute_script("""
+        const one = document.querySelector('#paper'), last = one.querySelector('.small').getBoundingClientRect(), box = one.getBoundingClientRect();
+        return [getComputedStyle(one).backgroundColor, getComputedStyle(one).color, last.bottom <= box.bottom + 1, one.scrollHeight <= one.clientHeight + 1,
+                ...['.bar', '.tools'].map((name) => getComputedStyle(document.querySelector(name)).display)]""")
+    planner.driver.execute_cdp_cmd("Emulation.setEmulatedMedia", {"media": ""})
+    assert seen == ["rgb(255, 255, 255)", "rgb(22, 34, 46)", True, True, "none", "none"]
+
+
+def test_the_wall_follows_the_plan(planner: Planner) -> None:
+    """Who only looks on sees the plan in force and what is told, without a touch, and can go nowhere else."""
+    planner.drop("day.json", "day-tides.csv")
+    planner.plan()
+    day = planner.driver.current_url.split("/day/")[1].split("/")[0]
+    planner.at("accept").click()
+    planner.underway()
+    wall = chromium()
+    try:
+        with open(os.path.join(planner.served.data, "key"), encoding="ascii") as file:
+            wall.get(f"{planner.served.origin}/enter?key={reader_of(file.read().strip())}")
+        wait(lambda: wall.current_url.endswith(f"/wall/{day}") and "Proved best: 308,296.0 t" in wall.find_element(By.ID, "headline").text)
+        assert wall.find_element(By.CSS_SELECTOR, "#rows tr.next th").text == "Ibis" and "not issued" in wall.find_element(By.ID, "which").text
+        planner.event("sailed", ship="Ibis", slot=0)
+        wait(lambda: "Ibis sailed at 00:00" in wall.find_element(By.ID, "events").text)
+        assert wall.find_element(By.CSS_SELECTOR, "#rows tr.gone th").text == "Ibis"
+        assert not wall.find_elements(By.CSS_SELECTOR, "button, input, select, a")
+        wall.get(planner.served.origin + "/")
+        assert "403" in wall.page_source or "Forbidden" in wall.page_source
+    finally:
+        wall.quit()
+
+
+def test_the_line_for_now(planner: Planner, tmp_path: object) -> None:
+    """On a day that is today the time now is the machine's, and a line in the picture; another one can be chosen."""
+    (_, text), tides = example("day.json", "day-tides.csv")
+    day, now = json.loads(text), datetime.now()
+    begin = now - timedelta(hours=5, minutes=now.minute % 15)
+    made = {**day, "version": 3, "start": f"{begin:%Y-%m-%d %H:%M}", "heights": "start", "closed": [], "after": [],
+            "waypoints": [{**one, "closed": []} for one in day["waypoints"]], "ships": [{**one, "may_stay": False, "closed": []} for one in day["ships"]]}
+    paths = [os.path.join(str(tmp_path), name) for name in ("today.json", "tides.csv")]
+    for path, data in zip(paths, (json.dumps(made), tides[1])):
+        with open(path, "w", encoding="utf-8") as file:
+            file.write(data)
+    planner.drop(*paths)
+    planner.plan()
+    planner.at("accept").click()
+    planner.underway()
+    slot = int(planner.at("now").get_attribute("value"))
+    assert slot in (20, 21)
+    label = "return document.querySelector('#picture').shadowRoot.querySelector('.nowline text').textContent"
+    wait(lambda: planner.driver.execute_script(label).startswith("now "))
+    Select(planner.at("now")).select_by_value("40")
+    said = Select(planner.at("now")).first_selected_option.text
+    wait(lambda: planner.driver.execute_script(label) == f"now {said}")
+    planner.at("repair").click()
+    wait(lambda: planner.at("accept").is_enabled())
+    planner.at("keep").click()
+    wait(lambda: "kept plan 1, and not its repair" in planner.text("deeds"))
 
 
 def test_the_checks_find_faults(planner: Planner, pages: list[str]) -> None:

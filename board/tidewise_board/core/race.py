@@ -8,7 +8,7 @@ from collections.abc import Callable
 
 from .program import Failed
 from .reading import Unread
-from .runs import ENDED, Inputs, Runs
+from .runs import Inputs, Runs
 from .store import Damaged
 
 # Seconds that the first search has for itself: most days are planned within them.

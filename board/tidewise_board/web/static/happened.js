@@ -53,11 +53,13 @@ export class Happened {
   }
 
   list(answer) {
-    by('events').replaceChildren(...answer.events.map((one) => {
+    // Beside each event what it breaks, and not what was broken before it.
+    const broken = (place) => answer.events[place].broken.filter((line) => !answer.events[place - 1]?.broken.includes(line));
+    by('events').replaceChildren(...answer.events.map((one, place) => {
       const back = make('button', {type: 'button'}, 'Take back');
       back.setAttribute('aria-label', `take back: ${one.said}`);
       back.addEventListener('click', () => this.send({undo: one.id}));
-      return make('li', {className: one.before ? 'known' : ''}, make('span', {}, one.said), back, ...(one.broken.length ? [make('span', {className: 'broken'}, `breaks: ${one.broken.join('; ')}`)] : []));
+      return make('li', {className: one.before ? 'known' : ''}, make('span', {}, one.said), back, ...(broken(place).length ? [make('span', {className: 'broken'}, `breaks: ${broken(place).join('; ')}`)] : []));
     }));
     by('broken').replaceChildren(...(answer.broken.length ? answer.broken.map((line) => make('li', {className: 'q'}, line)) : [make('li', {className: 'm'}, 'Nothing: the plan still holds.')]));
     by('noted').replaceChildren(...answer.noted.map((line) => make('li', {}, line)));
