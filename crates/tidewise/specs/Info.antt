@@ -6,7 +6,7 @@ use Rattle.hw_app.specs.declared.form.Form.{Form}
 use Rattle.tidewise.specs.declared.info.Info.{Info}
 use Rattle.tidewise.specs.declared.info.Info.TheVariants.{Help, Version}
 use Rattle.tidewise.specs.declared.help.TheConstants.{HEAD, PURPOSES, TAIL}
-use Rattle.tidewise.specs.declared.info.TheConstants.{VERSION}
+use Rattle.tidewise.specs.declared.info.TheConstants.{BUILD, VERSION}
 
 -- what a word alone asks for
 abbrev pub info_word : List ℕ → Option Info
@@ -39,6 +39,15 @@ purposes = map (λ text. text.now) PURPOSES
 abbrev pub help_text : List ℕ
 help_text = HEAD.now ++ forms_text forms purposes ++ TAIL.now
 
+-- a build's name after the version; a build without a name has nothing there
+abbrev pub build_text : List ℕ → List ℕ
+build_text [] = []
+build_text (b ∷ name) = codes " " ++ b ∷ name
+
+-- the program's name, its version, and which build it is
+abbrev pub version_text : List ℕ → List ℕ → List ℕ
+version_text version build = codes "tidewise " ++ version ++ build_text build ++ codes "\n"
+
 abbrev pub info_text : Info → List ℕ
 info_text Help = help_text
-info_text Version = codes "tidewise " ++ VERSION.now ++ codes "\n"
+info_text Version = version_text VERSION.now BUILD.now

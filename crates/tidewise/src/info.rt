@@ -3,13 +3,17 @@
 ghost use Rattle.std.specs.Prelude.{◌≡◌, map, string_bytes};
 ghost use Rattle.hw_desk.specs.Whole.{SendsText};
 ghost use Rattle.hw_desk.specs.Writers.{Puts};
-ghost use Rattle.tidewise.specs.Info.{info_of, info_text, info_word};
+ghost use Rattle.tidewise.specs.Info.{build_text, info_of, info_text, info_word};
 
 use crate::help::put_help;
 use hw_desk::{Desk, DeskFailed, Tray, TrayWriter, Writer};
 
 /// The version of the program.
 pub const VERSION: &str = "0.1.0";
+
+/// Which build this is: whether it was proved, and its commit. Empty in the repository; `tools/quick`
+/// and `tools/release` build a copy in which it says so.
+pub const BUILD: &str = "";
 
 /// What the program tells of itself, where that alone is asked for.
 #[derive(Clone, Copy)]
@@ -40,11 +44,25 @@ pub fn info_of(words: &[String]) -> Option<Info>
     }
 }
 
+/// Puts which build it is, after the version, where it has a name.
+fn put_build<W: Writer>(out: &mut W, build: &str)
+    ensures { Puts (build_text build.now) (W.state out.old) (W.state out.new) }
+{
+    match build.as_bytes() {
+        [] => {}
+        name => {
+            out.put(b" ");
+            out.put(name);
+        }
+    }
+}
+
 fn put_version<W: Writer>(out: &mut W)
     ensures { Puts (info_text Info.Version) (W.state out.old) (W.state out.new) }
 {
     out.put(b"tidewise ");
     out.put(VERSION.as_bytes());
+    put_build(out, BUILD);
     out.put(b"\n");
 }
 

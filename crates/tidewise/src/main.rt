@@ -3,6 +3,7 @@
 
 mod help;
 mod info;
+mod laws;
 mod words;
 
 use crate::words::end_of;
