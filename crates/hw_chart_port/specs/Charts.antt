@@ -71,18 +71,6 @@ cargo_in chart ship slot = unwrap_or (value chart.port chart.tide ship slot) 0
 abbrev pub shown : ChartParts → ℕ
 shown chart = min chart.span chart.tide.rows
 
--- the name of a waypoint
-abbrev pub charted_waypoint_name : ChartParts → ℕ → List ℕ
-charted_waypoint_name chart place = option_map_or (λ w. w.name) (slice_get chart.port.waypoints place) []
-
--- the charted depth at a waypoint
-abbrev pub depth_in : ChartParts → ℕ → ℤ
-depth_in chart place = option_map_or (λ w. w.depth) (slice_get chart.port.waypoints place) (pos 0)
-
--- the height that judges a pass in a slot at a waypoint: that at the beginning of the slot, or the lesser of those at both ends
-abbrev pub judging_height : ChartParts → ℕ → ℕ → ℤ
-judging_height chart slot place = if is_least chart.port then int_min (height_at chart.tide slot place) (height_at chart.tide (slot + 1) place) else height_at chart.tide slot place
-
 -- one text for a ship that goes out, and another one for a ship that comes in
 abbrev pub by_direction : ShipParts → List ℕ → List ℕ → List ℕ
 by_direction s goes_out comes_in = if is_outgoing s then goes_out else comes_in

@@ -8,7 +8,7 @@ ghost use Rattle.hw_port_model.specs.Numbers.{whole};
 ghost use Rattle.hw_port_csv.specs.Sailings.{minutes_text, pass_text, time_text};
 
 use crate::field::put_comma;
-use crate::passes::natural;
+use hw_draft::natural;
 use hw_desk::Writer;
 use hw_model::{MOST_SLOTS, Slot};
 use hw_port::{PortParts, Text};

@@ -1,24 +1,10 @@
--- The passes of a route that keep a ship back: the one that leaves just the allowed draft, and the last one.
-use Rattle.std.specs.Prelude.{ℕ, ◌+◌, ℤ, Bool, nat_lt, List, [], ◌∷◌, if◌then◌else◌}
-use Rattle.std.specs.Ordering.{int_eq}
+-- The last pass of a route.
+use Rattle.std.specs.Prelude.{ℕ, ◌+◌, nat_lt, List, [], ◌∷◌, if◌then◌else◌}
 use Rattle.hw_port.specs.declared.parts.Pass.{Pass}
 use Rattle.hw_port.specs.Whole.{Parts}
-use Rattle.hw_tide.specs.Levels.{TideParts}
 use Rattle.hw_port_model.specs.Numbers.{whole}
 use Rattle.hw_port_model.specs.Closed.{is_least}
-use Rattle.hw_port_model.specs.Drafts.{draft_at}
-use Rattle.hw_port_windows.specs.declared.passes.LastPass.{LastPass}
-
--- a pass leaves just this draft
-unfoldable pub leaves_just : Parts → TideParts → ℕ → ℤ → Pass → Bool
-leaves_just p h slot draft pass = int_eq (draft_at p h slot pass) draft
-
--- the place of the waypoint of the first pass that does
-abbrev pub limiting : Parts → TideParts → ℕ → ℤ → List Pass → ℕ
-limiting p h slot draft [] = 0
-limiting p h slot draft (pass ∷ more) =
-    if leaves_just p h slot draft pass then whole pass.waypoint
-    else limiting p h slot draft more
+use Rattle.hw_draft.specs.declared.last.LastPass.{LastPass}
 
 -- the waypoint of a pass, and how many slots after sailing it is made
 abbrev pub made_at : Pass → LastPass
