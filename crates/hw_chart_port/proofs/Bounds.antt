@@ -58,6 +58,3 @@ draft_least p h ship slot kept (Some d) is = (small_by p h ship slot d kept (sli
 pub draft_most : (p : Parts) (h : TideParts) (ship slot : ℕ) → PortKept p → (o : Option ℤ) → o ≡ sailing p h ship slot → IfSome o (λ d. d ≤ℤ pos 10_000)
 draft_most p h ship slot kept None is = search rules
 draft_most p h ship slot kept (Some d) is = (small_by p h ship slot d kept (slice_get p.ships ship) refl (sym is)).1
-
-pub depth_is : (waypoints : List Waypoint) (i : ℕ) (d : Waypoint) → i < length waypoints → (get_or waypoints i d).depth ≡ option_map_or (λ w. w.depth) (slice_get waypoints i) (pos 0)
-depth_is waypoints i d lt = sym (ap (λ o. option_map_or (λ w. w.depth) o (pos 0)) (slice_get-get_or waypoints i d lt))
