@@ -5,6 +5,7 @@ ghost use Rattle.hw_desk.specs.Writers.{Puts};
 ghost use Rattle.hw_chart_svg.specs.Pieces.{picture_pieces_text};
 ghost use Rattle.hw_port.specs.Kept.{PassKept, ShipKept};
 ghost use Rattle.hw_port_model.specs.Numbers.{horizon_of, whole};
+ghost use Rattle.hw_draft.specs.Passages.{PassageKept};
 ghost use Rattle.hw_chart.specs.Courses.{SailsBefore};
 ghost use Rattle.hw_chart_port.specs.Charts.{tall_between as tall_of};
 ghost use Rattle.hw_chart_port.specs.Passings.{course_marks, marks_from, need as need_of, pass_mark, pass_marks, passing, passing_by, passing_title};

@@ -1,5 +1,5 @@
 -- The last pass of a route.
-use Rattle.std.proofs.Common.{◌≡◌, ◌⊎◌, ◌≤◌, ◌+◌, ℕ, suc, Bool, true, false, cond, List, [], ◌∷◌, length, Contains, nat_lt, refl, sym, subst, inl, inr, arith}
+use Rattle.std.proofs.Common.{◌≡◌, ◌⊎◌, ◌≤◌, ℕ, suc, Bool, true, false, cond, List, [], ◌∷◌, length, Contains, nat_lt, refl, sym, subst, inl, inr, arith}
 use Rattle.std.proofs.lemmas.Bool.{ltb-true, ltb-false}
 use Rattle.hw_port.specs.declared.parts.Pass.{Pass}
 use Rattle.hw_port_laws.proofs.Eachs.{Each, all_of_each}

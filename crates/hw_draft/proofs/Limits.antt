@@ -1,5 +1,5 @@
 -- The pass that limits a draft.
-use Rattle.std.proofs.Common.{◌≡◌, ◌<◌, ◌≤◌, ◌∙◌, ℕ, zero, suc, ℤ, Bool, true, false, cond, List, [], ◌∷◌, length, Option, Some, Contains, get_or, option_and_then, refl, sym, ap, arith}
+use Rattle.std.proofs.Common.{◌≡◌, ◌<◌, ◌∙◌, ℕ, zero, suc, ℤ, Bool, true, false, cond, List, [], ◌∷◌, length, Option, Some, get_or, option_and_then, refl, sym, ap, arith}
 use Rattle.std.proofs.lemmas.Bool.Decides.{Decides-int_eq}
 use Rattle.hw_port.specs.declared.parts.Pass.{Pass}
 use Rattle.hw_port.specs.Whole.{Parts}
@@ -61,9 +61,9 @@ module _ (p : Parts) (h : TideParts) (slot : ℕ) (draft : ℤ) where
 
 pub limits_law : SomePassLimits
 limits_law = λ p h s slot draft a.
-  let f = finds_at p h slot draft s.route a.met.0 a.met.1.0 a.met.1.1 a.met.1.2 a.met.2 in
-  record {
-    limit = f.limit;
-    is = ap (option_and_then (λ d. first_leaving d (passages p h slot s.route))) ((least_draft_law p h s slot draft).1 a) ∙ f.is;
-    leaves = f.leaves;
-  }
+    let f = finds_at p h slot draft s.route a.met.0 a.met.1.0 a.met.1.1 a.met.1.2 a.met.2 in
+    record {
+      limit = f.limit;
+      is = ap (option_and_then (λ d. first_leaving d (passages p h slot s.route))) ((least_draft_law p h s slot draft).1 a) ∙ f.is;
+      leaves = f.leaves;
+    }

@@ -1,5 +1,5 @@
 -- What is told of a ship is true of it by the port's rules.
-use Rattle.std.proofs.Common.{◌≡◌, ◌⊎◌, ◌∙◌, ◌<◌, ◌*◌, ℕ, zero, suc, ℤ, ◌≤ℤ◌, ◌+ℤ◌, ◌-ℤ◌, int_lt, nat_lt, Bool, true, false, cond, List, [], ◌∷◌, length, map, decimal, Contains, Option, Some, None, IsSome, option_map, option_and_then, slice_get, refl, sym, subst, ap, inl, inr, arith}
+use Rattle.std.proofs.Common.{◌≡◌, ◌⊎◌, ◌∙◌, ◌<◌, ◌*◌, ℕ, ℤ, ◌≤ℤ◌, ◌+ℤ◌, ◌-ℤ◌, int_lt, nat_lt, Bool, true, false, cond, List, [], ◌∷◌, map, decimal, Option, Some, None, IsSome, option_map, option_and_then, slice_get, refl, sym, subst, ap, inl, inr, arith}
 use Rattle.std.proofs.lemmas.Bool.{le-ltb}
 use Rattle.std.proofs.lemmas.Int.{ints}
 use Rattle.std.specs.Int.{int_min}

@@ -1,12 +1,12 @@
 -- A route with a pass after the end of the tide.
-use Rattle.std.proofs.Common.{◌≡◌, ◌⊎◌, ◌<◌, ◌≤◌, ◌+◌, ◌∙◌, ◌&&◌, not, ◌||◌, ℕ, zero, suc, ℤ, Bool, true, false, cond, List, [], ◌∷◌, length, map, Option, Some, None, Contains, get_or, nat_lt, refl, sym, ap, subst, inl, inr, arith}
-use Rattle.std.proofs.lemmas.Bool.{ltb-true, ltb-false}
+use Rattle.std.proofs.Common.{◌≡◌, ◌⊎◌, ◌≤◌, ◌+◌, ◌&&◌, not, ◌||◌, ℕ, ℤ, Bool, true, false, cond, List, [], ◌∷◌, length, map, Option, Some, None, nat_lt, refl, inl, inr, arith}
+use Rattle.std.proofs.lemmas.Bool.{ltb-false}
 use Rattle.hw_port.specs.declared.parts.Pass.{Pass}
 use Rattle.hw_port.specs.Whole.{Parts}
 use Rattle.hw_tide.specs.Levels.{TideParts}
 use Rattle.hw_port_model.specs.Numbers.{whole}
 use Rattle.hw_port_model.specs.Closed.{is_least}
-use Rattle.hw_port_model.specs.Drafts.{draft_at, is_passable, last_height, least_of_drafts, lesser, pass_draft, passing_slot}
+use Rattle.hw_port_model.specs.Drafts.{draft_at, is_passable, last_height, least_of_drafts, lesser, pass_draft}
 use Rattle.hw_draft.specs.LastPasses.{judging_slot, last_pass, made_at}
 use Rattle.hw_draft.proofs.LastPasses.{later_bounds}
 use Rattle.hw_port_windows.specs.Closings.{some_pass_closed}

@@ -1,5 +1,5 @@
 -- What a status says of a slot.
-use Rattle.std.proofs.Common.{◌≡◌, ◌⊎◌, ◌↔◌, ◌≤◌, ◌&&◌, ◌||◌, not, ◌∙◌, ℕ, ℤ, int_lt, Bool, true, false, cond, length, Option, Some, None, IsSome, IsTrue, option_map, option_and_then, slice_get, refl, sym, ap, subst, inl, inr, arith}
+use Rattle.std.proofs.Common.{◌≡◌, ◌↔◌, ◌≤◌, ◌&&◌, ◌||◌, not, ℕ, ℤ, int_lt, Bool, true, false, cond, length, Option, Some, None, IsSome, IsTrue, option_map, option_and_then, slice_get, refl, sym, ap, subst, arith}
 use Rattle.std.specs.Option.{option_map_or}
 use Rattle.std.proofs.lemmas.Bool.{and_from}
 use Rattle.std.proofs.lemmas.Int.{ints}
