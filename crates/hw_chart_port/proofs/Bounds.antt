@@ -1,12 +1,9 @@
 -- How large the numbers of a picture are.
-use Rattle.std.proofs.Common.{rules, List, ap, get_or, length, ◌<◌, ◌≡◌, ℕ, ℤ, pos, ◌≤ℤ◌, int_lt, cond, Bool, true, false, Option, Some, None, IfSome, option_and_then, option_map, slice_get, refl, sym, arith}
+use Rattle.std.proofs.Common.{rules, ◌≡◌, ℕ, ℤ, pos, ◌≤ℤ◌, int_lt, cond, Bool, true, false, Option, Some, None, IfSome, option_and_then, option_map, slice_get, refl, sym, arith}
 use Rattle.std.proofs.lemmas.Int.{ints}
-use Rattle.std.proofs.lemmas.Option.{slice_get-get_or}
 use Rattle.std.specs.Int.{int_min}
-use Rattle.std.specs.Option.{option_map_or}
 use Rattle.hw_lemmas.proofs.Truths.{if_some}
 use Rattle.hw_port.specs.Kept.{PortKept, Within}
-use Rattle.hw_port.specs.declared.parts.Waypoint.{Waypoint}
 use Rattle.hw_port.specs.Parts.{ShipParts}
 use Rattle.hw_port.specs.Whole.{Parts}
 use Rattle.hw_tide.specs.Levels.{TideParts}

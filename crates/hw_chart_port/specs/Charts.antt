@@ -1,13 +1,10 @@
 -- A port with its tide, and a timetable or none: what a picture is drawn from.
-use Rattle.std.specs.Prelude.{◌≡◌, ◌<◌, ◌≤◌, length, IfSome, min, ℕ, ◌+◌, ◌*◌, ◌/◌, ℤ, pos, ◌-ℤ◌, List, [], codes, Option, Some, None, slice_get, option_and_then, unwrap_or, unsigned_abs, if◌then◌else◌}
-use Rattle.std.specs.Int.{int_min}
-use Rattle.std.specs.Option.{option_map_or}
+use Rattle.std.specs.Prelude.{◌≡◌, ◌<◌, ◌≤◌, length, IfSome, min, ℕ, ◌+◌, ◌*◌, ◌/◌, ℤ, pos, ◌-ℤ◌, List, codes, Option, Some, None, slice_get, option_and_then, unwrap_or, unsigned_abs, if◌then◌else◌}
 use Rattle.hw_port.specs.Kept.{PortKept}
 use Rattle.hw_port.specs.Parts.{ShipParts}
 use Rattle.hw_port.specs.Whole.{Parts}
-use Rattle.hw_tide.specs.Levels.{TideParts, height_at}
+use Rattle.hw_tide.specs.Levels.{TideParts}
 use Rattle.hw_port_model.specs.Numbers.{whole, horizon_of, is_outgoing}
-use Rattle.hw_port_model.specs.Closed.{is_least}
 use Rattle.hw_port_model.specs.Drafts.{allowed, sailing, value}
 use Rattle.hw_chart_calendar.specs.Calendars.{midnight}
 use Rattle.hw_chart.specs.declared.course.Course.{Course}
