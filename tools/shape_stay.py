@@ -24,7 +24,8 @@ TESTED: dict[str, str] = {
 # Numbers that are a constant's by chance.
 BY_CHANCE: dict[tuple[str, str], str] = {
     ("hw_audit/src/forms.rt", "1000"): "the counts that an event may name",
-    ("hw_draft/src/drafts.rt", "1_000"): "a port's clearance",
+    ("hw_draft/src/last.rt", "1_023"): "a port's offset",
+    ("hw_draft/src/passage.rt", "1_000"): "a port's clearance",
     ("hw_port_named/src/closed.rt", "1_023"): "a port's offset",
     ("hw_port_named/src/naming.rt", "1_000"): "a port's numbers",
     ("hw_chart_flat/src/values.rt", "1000"): "parts of a window",
@@ -32,8 +33,6 @@ BY_CHANCE: dict[tuple[str, str], str] = {
     ("hw_port_lint/src/ships.rt", "1_000"): "centimetres of a draft",
     ("hw_port_lint/src/ships.rt", "1_023"): "a port's offset",
     ("hw_chart_port/src/figures.rt", "64"): "the width of a name",
-    ("hw_chart_port/src/sailing.rt", "1_000"): "a port's clearance",
-    ("hw_chart_port/src/span.rt", "1_023"): "a port's offset",
     ("hw_chart_port/src/span.rt", "1_024"): "two of a port's times",
     ("hw_chart_port/src/span.rt", "512"): "a port's times",
     ("hw_chart_port/src/strip.rt", "40"): "a place in the picture",
@@ -41,9 +40,6 @@ BY_CHANCE: dict[tuple[str, str], str] = {
     ("hw_price_adviser/src/variation.rt", "512"): "parts of a value",
     ("hw_chart_repair/src/marks.rt", "1_000"): "rows of the picture",
     ("hw_search_sources/src/marking.rt", "64"): "the places of a block",
-    ("hw_port_csv/src/passes.rt", "1_000"): "a port's clearance",
     ("hw_port_csv/src/passes.rt", "1_023"): "a port's offset",
     ("hw_port_csv/src/time.rt", "1_023"): "a port's offset",
-    ("hw_port_windows/src/passes.rt", "1_000"): "a port's clearance",
-    ("hw_port_windows/src/passes.rt", "1_023"): "a port's offset",
 }

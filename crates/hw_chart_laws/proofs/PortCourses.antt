@@ -4,12 +4,13 @@ use Rattle.std.proofs.lemmas.Bool.{cases_lt, lt-ltb, le-ltb}
 use Rattle.std.proofs.lemmas.List.{append_cancel_left}
 use Rattle.hw_port.specs.Parts.{ShipParts}
 use Rattle.hw_port_model.specs.Numbers.{is_outgoing}
+use Rattle.hw_draft.specs.Passages.{waypoint_name}
 use Rattle.hw_chart_svg.specs.Numbers.{clock}
 use Rattle.hw_chart_svg.specs.Sheets.{title_end}
 use Rattle.hw_chart.specs.declared.course.Course.{Course}
 use Rattle.hw_chart.specs.declared.course.Course.TheVariants.{Unplanned, Stays, Sails}
 use Rattle.hw_chart.specs.Courses.{SailsBefore, course_of}
-use Rattle.hw_chart_port.specs.Charts.{ChartParts, charted_waypoint_name}
+use Rattle.hw_chart_port.specs.Charts.{ChartParts}
 use Rattle.hw_chart_port.specs.Sailings.{sailing_of}
 use Rattle.hw_chart_port.specs.Titles.{course_title, load_title, time_title, way_title}
 use Rattle.hw_chart_laws.proofs.Reading.{after_both, number_back}
@@ -39,10 +40,10 @@ slot_back m n a b s t x y p q e =
 sails_back : (one two : ChartParts) (v : ℕ) (s : ShipParts) (m n : ℕ) (x y : List ℕ) → m < 2 ^ 64 → n < 2 ^ 64 → course_title one v s (Sails m) ++ x ≡ course_title two v s (Sails n) ++ y → m ≡ n
 unfolding time_title
 sails_back one two v s m n x y p q e =
-    let g = sailing_of one v s m in
-    let k = sailing_of two v s n in
-    let load = load_title (charted_waypoint_name one g.by) g ++ [] in
-    let other = load_title (charted_waypoint_name two k.by) k ++ [] in
+    let g = sailing_of one v m in
+    let k = sailing_of two v n in
+    let load = load_title (waypoint_name one.port g.by) g ++ [] in
+    let other = load_title (waypoint_name two.port k.by) k ++ [] in
     let times = after_both (way_title s) (time_title g ++ load) (time_title k ++ other) x y e in
     slot_back m n (clock g.time ++ []) (clock k.time ++ []) load other x y p q times
 

@@ -6,6 +6,7 @@ use Rattle.hw_port.specs.declared.parts.Stretch.{Stretch}
 use Rattle.hw_port.specs.declared.parts.Waypoint.{Waypoint}
 use Rattle.hw_port.specs.Parts.{ShipParts}
 use Rattle.hw_port_model.specs.Numbers.{is_outgoing, whole}
+use Rattle.hw_draft.specs.Passages.{waypoint_name}
 use Rattle.hw_chart.specs.declared.course.Course.{Course}
 use Rattle.hw_chart.specs.declared.course.Course.TheVariants.{Unplanned, Stays, Sails}
 use Rattle.hw_chart.specs.Legends.{legend_begin}
@@ -13,7 +14,7 @@ use Rattle.hw_chart.specs.Layout.{plot}
 use Rattle.hw_chart_port.specs.declared.heights.Heights.{Heights}
 use Rattle.hw_chart_port.specs.declared.passing.Strip.{Strip}
 use Rattle.hw_chart_port.specs.declared.passing.Underway.{Underway}
-use Rattle.hw_chart_port.specs.Charts.{ChartParts, course, shown, tall_between, charted_waypoint_name}
+use Rattle.hw_chart_port.specs.Charts.{ChartParts, course, shown, tall_between}
 use Rattle.hw_chart_port.specs.Fleets.{fleet_panel, tugs_held_in, panel_of}
 use Rattle.hw_chart_port.specs.Heads.{columns, columns_where}
 use Rattle.hw_chart_port.specs.declared.marks.Mark.{Mark}
@@ -99,7 +100,7 @@ module _ {P : Tags → List ℕ → Tags → Type 0} (w : Writing P) where
 
   of_passes : {a : Tags} (chart : ChartParts) (strip : Strip) (ship : Underway) (s : ShipParts) (passes : List Pass) → P a (pass_marks chart strip ship s passes) a
   of_passes chart strip ship s [] = w.none
-  of_passes chart strip ship s (pass ∷ more) = w.onward (if_so w (nat_eq (whole pass.waypoint) strip.place) (w.named (passing_area strip (passing chart strip ship pass)) (plain_mark s) (spelled_passing s.name (charted_waypoint_name chart strip.place) (passing chart strip ship pass)))) (of_passes chart strip ship s more)
+  of_passes chart strip ship s (pass ∷ more) = w.onward (if_so w (nat_eq (whole pass.waypoint) strip.place) (w.named (passing_area strip (passing chart strip ship pass)) (plain_mark s) (spelled_passing s.name (waypoint_name chart.port strip.place) (passing chart strip ship pass)))) (of_passes chart strip ship s more)
 
   of_course : {a : Tags} (chart : ChartParts) (strip : Strip) (v : ℕ) (s : ShipParts) (course : Course) → P a (course_marks chart strip v s course) a
   of_course chart strip v s Unplanned = w.none

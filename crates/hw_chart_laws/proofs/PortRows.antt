@@ -1,5 +1,6 @@
 -- The rows of a port's picture, made of what a picture is written with.
 use Rattle.std.proofs.Common.{◌++◌, ◌+◌, ◌-◌, ℕ, zero, suc, nat_eq, nat_lt, is_some, List, [], ◌∷◌, codes, refl, if◌then◌else◌}
+use Rattle.hw_draft.specs.Passages.{waypoint_name}
 use Rattle.hw_chart_svg.specs.Sheets.{group_end}
 use Rattle.hw_port.specs.declared.parts.AfterPair.{AfterPair}
 use Rattle.hw_port.specs.declared.parts.BerthPair.{BerthPair}
@@ -12,13 +13,13 @@ use Rattle.hw_chart.specs.Layout.{plot, stripe}
 use Rattle.hw_chart_port.specs.declared.sailing.Sailing.{Sailing}
 use Rattle.hw_chart_port.specs.declared.stays.Wait.{Wait}
 use Rattle.hw_chart_port.specs.Bars.{bars, clearings}
-use Rattle.hw_chart_port.specs.Charts.{ChartParts, course, full_of, slot_in_chart, charted_waypoint_name}
+use Rattle.hw_chart_port.specs.Charts.{ChartParts, course, full_of, slot_in_chart}
 use Rattle.hw_chart_port.specs.Closings.{closings_from}
 use Rattle.hw_chart_port.specs.Drafts.{draft_level, drafts_text, fullness_level, open_level, sailing_where, window_of}
-use Rattle.hw_chart_port.specs.Figures.{allowed_figures, deepest_cargo, cargo_figures, draft_figures, figures, keel_figures, keel_of_sailing, time_figures}
+use Rattle.hw_chart_port.specs.Figures.{allowed_figures, deepest_cargo, cargo_figures, draft_figures, figures, keel_figures, time_figures}
 use Rattle.hw_chart_port.specs.Rows.{row_left, row_number, row_right, row_windows, row_y}
 use Rattle.hw_chart_port.specs.Sailings.{sailing_of}
-use Rattle.hw_chart_port.specs.Spans.{last_pass_offset}
+use Rattle.hw_draft.specs.LastPasses.{last_pass}
 use Rattle.hw_chart_port.specs.Stays.{chart_ship_name, stays_of, wait_of}
 use Rattle.hw_chart_laws.proofs.Plain.{letters}
 use Rattle.hw_chart_laws.proofs.PortTexts.{plain_arrow, plain_mark, plain_tight, plain_way, spelled_closing, spelled_full, spelled_short, spelled_wait}
@@ -62,7 +63,7 @@ module _ {P : Tags → List ℕ → Tags → Type 0} (w : Writing P) where
 
   of_bars : {a : Tags} (chart : ChartParts) (v : ℕ) (s : ShipParts) (slot y : ℕ) → P a (bars chart v s slot y) a
   of_bars chart v s slot y =
-      w.onward (w.opened (plot (y + 31) 8 chart.span 2)) (five w (of_clearings chart v chart.port.berths) (of_waits chart v chart.port.after) (of_bar w slot (slot + last_pass_offset s.route + 1) 0 (plain_way s)) (if_so w (nat_lt 0 (whole s.tugs)) (w.onward (of_bar w slot (slot + whole s.job) 1 (letters (codes "tu") refl)) (of_bar w (slot + whole s.job) (slot + hold_of chart.port s) 1 (letters (codes "ba") refl)))) w.closed)
+      w.onward (w.opened (plot (y + 31) 8 chart.span 2)) (five w (of_clearings chart v chart.port.berths) (of_waits chart v chart.port.after) (of_bar w slot (slot + (last_pass s.route).offset + 1) 0 (plain_way s)) (if_so w (nat_lt 0 (whole s.tugs)) (w.onward (of_bar w slot (slot + whole s.job) 1 (letters (codes "tu") refl)) (of_bar w (slot + whole s.job) (slot + hold_of chart.port s) 1 (letters (codes "ba") refl)))) w.closed)
 
   of_time : {a : Tags} (g : Sailing) (y : ℕ) → P a (time_figures g y) a
   of_time g y = w.onward (says w (codes "r b") refl 956 (y + 17) (of_clock g.time)) (says w (codes "r m") refl 956 (y + 33) (also (fixed (codes "slot ") refl) (also (of_number g.slot) nothing)))
@@ -71,10 +72,10 @@ module _ {P : Tags → List ℕ → Tags → Type 0} (w : Writing P) where
   of_draft s g y = w.onward (says w (codes "r b") refl 1020 (y + 17) (of_metres g.draft)) (if_so w (is_outgoing s) (says w (codes "r m") refl 1020 (y + 33) (spelled_short (whole (full_of s)) g.draft)))
 
   of_allowed : {a : Tags} (chart : ChartParts) (g : Sailing) (y : ℕ) → P a (allowed_figures chart g y) a
-  of_allowed chart g y = w.onward (w.lettered 1100 (y + 17) (plain_tight g) (of_metres g.allowed)) (w.called 1100 (y + 33) (charted_waypoint_name chart g.by) 72 (letters (codes "r m") refl))
+  of_allowed chart g y = w.onward (w.lettered 1100 (y + 17) (plain_tight g) (of_metres g.allowed)) (w.called 1100 (y + 33) (waypoint_name chart.port g.by) 72 (letters (codes "r m") refl))
 
   of_keel : {a : Tags} (g : Sailing) (y : ℕ) → P a (keel_figures g y) a
-  of_keel g y = w.onward (w.lettered 1186 (y + 17) (plain_tight g) (of_metres (keel_of_sailing g))) (says w (codes "r m") refl 1186 (y + 33) (also (fixed (codes "min ") refl) (also (of_metres g.clearance) nothing)))
+  of_keel g y = w.onward (w.lettered 1186 (y + 17) (plain_tight g) (of_metres g.keel)) (says w (codes "r m") refl 1186 (y + 33) (also (fixed (codes "min ") refl) (also (of_metres g.clearance) nothing)))
 
   of_cargo : {a : Tags} (s : ShipParts) (g : Sailing) (y : ℕ) → P a (cargo_figures s g y) a
   of_cargo s g y = if_so w (is_outgoing s) (w.onward (says w (codes "r b") refl 1268 (y + 17) (of_tenths g.cargo)) (says w (codes "r m") refl 1268 (y + 33) (also (fixed (codes "of ") refl) (also (of_tenths (deepest_cargo s)) nothing))))
@@ -85,7 +86,7 @@ module _ {P : Tags → List ℕ → Tags → Type 0} (w : Writing P) where
   of_right : {a : Tags} (chart : ChartParts) (v : ℕ) (s : ShipParts) (y : ℕ) (course : Course) → P a (row_right chart v s y course) a
   of_right chart v s y Unplanned = of_reasons w chart v s y
   of_right chart v s y Stays = of_stays w y
-  of_right chart v s y (Sails slot) = three w (of_pin w slot chart.span y (plain_way s)) (of_bars chart v s slot y) (of_figures chart s (sailing_of chart v s slot) y)
+  of_right chart v s y (Sails slot) = three w (of_pin w slot chart.span y (plain_way s)) (of_bars chart v s slot y) (of_figures chart s (sailing_of chart v slot) y)
 
   -- what follows the title of a row
   pub of_row_rest : {a : Tags} (chart : ChartParts) (v : ℕ) (s : ShipParts) (rank : ℕ) → P (group ∷ a) (stripe rank (row_y chart rank) ++ (row_left v s (row_y chart rank) ++ (row_windows chart v s (row_y chart rank) ++ (row_right chart v s (row_y chart rank) (course chart v) ++ group_end)))) a

@@ -3,13 +3,14 @@ use Rattle.std.proofs.Common.{◌+◌, ◌-◌, ℕ, nat_eq, List, codes, refl}
 use Rattle.hw_port.specs.Parts.{ShipParts}
 use Rattle.hw_port.specs.Whole.{Parts}
 use Rattle.hw_port_model.specs.Numbers.{is_outgoing}
+use Rattle.hw_draft.specs.Passages.{waypoint_name}
 use Rattle.hw_chart.specs.declared.course.Course.{Course}
 use Rattle.hw_chart.specs.declared.course.Course.TheVariants.{Unplanned, Stays, Sails}
 use Rattle.hw_chart_port.specs.declared.lane.Stay.{Stay}
 use Rattle.hw_chart_port.specs.declared.passing.Passing.{Passing}
 use Rattle.hw_chart_port.specs.declared.sailing.Sailing.{Sailing}
 use Rattle.hw_chart_port.specs.declared.stays.Wait.{Wait}
-use Rattle.hw_chart_port.specs.Charts.{ChartParts, mark_class, minutes_to, way, charted_waypoint_name}
+use Rattle.hw_chart_port.specs.Charts.{ChartParts, mark_class, minutes_to, way}
 use Rattle.hw_chart_port.specs.Closings.{closing_title}
 use Rattle.hw_chart_port.specs.Figures.{shortness, tight}
 use Rattle.hw_chart_port.specs.Heads.{sizes, sizes_text}
@@ -68,8 +69,8 @@ spelled_course : (chart : ChartParts) (v : ℕ) (s : ShipParts) (course : Course
 spelled_course chart v s Unplanned = nothing
 spelled_course chart v s Stays = fixed (codes ", stays") refl
 spelled_course chart v s (Sails slot) =
-    let g = sailing_of chart v s slot in
-    also (either (is_outgoing s) (fixed (codes ", sails out") refl) (fixed (codes ", comes in") refl)) (also (spelled_time g) (also (spelled_load (charted_waypoint_name chart g.by) g) nothing))
+    let g = sailing_of chart v slot in
+    also (either (is_outgoing s) (fixed (codes ", sails out") refl) (fixed (codes ", comes in") refl)) (also (spelled_time g) (also (spelled_load (waypoint_name chart.port g.by) g) nothing))
 
 pub spelled_row : (chart : ChartParts) (v : ℕ) (s : ShipParts) (course : Course) → Spelled (row_title chart v s course)
 spelled_row chart v s course = also (spelled_ship s.name v) (spelled_course chart v s course)

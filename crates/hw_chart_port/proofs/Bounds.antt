@@ -1,12 +1,9 @@
 -- How large the numbers of a picture are.
-use Rattle.std.proofs.Common.{rules, List, ap, get_or, length, ◌<◌, ◌≡◌, ℕ, ℤ, pos, ◌≤ℤ◌, int_lt, cond, Bool, true, false, Option, Some, None, IfSome, option_and_then, option_map, slice_get, refl, sym, arith}
+use Rattle.std.proofs.Common.{rules, ◌≡◌, ℕ, ℤ, pos, ◌≤ℤ◌, int_lt, cond, Bool, true, false, Option, Some, None, IfSome, option_and_then, option_map, slice_get, refl, sym, arith}
 use Rattle.std.proofs.lemmas.Int.{ints}
-use Rattle.std.proofs.lemmas.Option.{slice_get-get_or}
 use Rattle.std.specs.Int.{int_min}
-use Rattle.std.specs.Option.{option_map_or}
 use Rattle.hw_lemmas.proofs.Truths.{if_some}
 use Rattle.hw_port.specs.Kept.{PortKept, Within}
-use Rattle.hw_port.specs.declared.parts.Waypoint.{Waypoint}
 use Rattle.hw_port.specs.Parts.{ShipParts}
 use Rattle.hw_port.specs.Whole.{Parts}
 use Rattle.hw_tide.specs.Levels.{TideParts}
@@ -58,6 +55,3 @@ draft_least p h ship slot kept (Some d) is = (small_by p h ship slot d kept (sli
 pub draft_most : (p : Parts) (h : TideParts) (ship slot : ℕ) → PortKept p → (o : Option ℤ) → o ≡ sailing p h ship slot → IfSome o (λ d. d ≤ℤ pos 10_000)
 draft_most p h ship slot kept None is = search rules
 draft_most p h ship slot kept (Some d) is = (small_by p h ship slot d kept (slice_get p.ships ship) refl (sym is)).1
-
-pub depth_is : (waypoints : List Waypoint) (i : ℕ) (d : Waypoint) → i < length waypoints → (get_or waypoints i d).depth ≡ option_map_or (λ w. w.depth) (slice_get waypoints i) (pos 0)
-depth_is waypoints i d lt = sym (ap (λ o. option_map_or (λ w. w.depth) o (pos 0)) (slice_get-get_or waypoints i d lt))

@@ -8,7 +8,7 @@ use Rattle.hw_port.specs.Parts.{ShipParts}
 use Rattle.hw_port_model.specs.Numbers.{whole, hold_of}
 use Rattle.hw_chart.specs.Rows.{bar, bars_begin}
 use Rattle.hw_chart_port.specs.Charts.{ChartParts, slot_in_chart, way}
-use Rattle.hw_chart_port.specs.Spans.{last_pass_offset}
+use Rattle.hw_draft.specs.LastPasses.{last_pass}
 use Rattle.hw_chart_port.specs.Stays.{stays_of}
 
 -- from the sailing of the outgoing ship until the berth is clear
@@ -25,7 +25,7 @@ clearings chart v (b ∷ more) = clearing_for chart v b ++ clearings chart v mor
 
 -- from sailing to the last pass
 abbrev pub voyage : ShipParts → ℕ → List ℕ
-voyage s slot = bar (way s) slot (slot + last_pass_offset s.route + 1) 0
+voyage s slot = bar (way s) slot (slot + (last_pass s.route).offset + 1) 0
 
 -- the job of the tugs, and then their turnaround
 abbrev pub tug_bars : ChartParts → ShipParts → ℕ → List ℕ

@@ -1,13 +1,10 @@
 -- A port with its tide, and a timetable or none: what a picture is drawn from.
-use Rattle.std.specs.Prelude.{◌≡◌, ◌<◌, ◌≤◌, length, IfSome, min, ℕ, ◌+◌, ◌*◌, ◌/◌, ℤ, pos, ◌-ℤ◌, List, [], codes, Option, Some, None, slice_get, option_and_then, unwrap_or, unsigned_abs, if◌then◌else◌}
-use Rattle.std.specs.Int.{int_min}
-use Rattle.std.specs.Option.{option_map_or}
+use Rattle.std.specs.Prelude.{◌≡◌, ◌<◌, ◌≤◌, length, IfSome, min, ℕ, ◌+◌, ◌*◌, ◌/◌, ℤ, pos, ◌-ℤ◌, List, codes, Option, Some, None, slice_get, option_and_then, unwrap_or, unsigned_abs, if◌then◌else◌}
 use Rattle.hw_port.specs.Kept.{PortKept}
 use Rattle.hw_port.specs.Parts.{ShipParts}
 use Rattle.hw_port.specs.Whole.{Parts}
-use Rattle.hw_tide.specs.Levels.{TideParts, height_at}
+use Rattle.hw_tide.specs.Levels.{TideParts}
 use Rattle.hw_port_model.specs.Numbers.{whole, horizon_of, is_outgoing}
-use Rattle.hw_port_model.specs.Closed.{is_least}
 use Rattle.hw_port_model.specs.Drafts.{allowed, sailing, value}
 use Rattle.hw_chart_calendar.specs.Calendars.{midnight}
 use Rattle.hw_chart.specs.declared.course.Course.{Course}
@@ -70,18 +67,6 @@ cargo_in chart ship slot = unwrap_or (value chart.port chart.tide ship slot) 0
 -- the slots that a picture shows of the tide: a shorter one ends before the picture does
 abbrev pub shown : ChartParts → ℕ
 shown chart = min chart.span chart.tide.rows
-
--- the name of a waypoint
-abbrev pub charted_waypoint_name : ChartParts → ℕ → List ℕ
-charted_waypoint_name chart place = option_map_or (λ w. w.name) (slice_get chart.port.waypoints place) []
-
--- the charted depth at a waypoint
-abbrev pub depth_in : ChartParts → ℕ → ℤ
-depth_in chart place = option_map_or (λ w. w.depth) (slice_get chart.port.waypoints place) (pos 0)
-
--- the height that judges a pass in a slot at a waypoint: that at the beginning of the slot, or the lesser of those at both ends
-abbrev pub judging_height : ChartParts → ℕ → ℕ → ℤ
-judging_height chart slot place = if is_least chart.port then int_min (height_at chart.tide slot place) (height_at chart.tide (slot + 1) place) else height_at chart.tide slot place
 
 -- one text for a ship that goes out, and another one for a ship that comes in
 abbrev pub by_direction : ShipParts → List ℕ → List ℕ → List ℕ

@@ -1,12 +1,13 @@
 -- The numbers of a sailing, each with what it is held against below it.
 use Rattle.std.specs.Prelude.{ℕ, ◌+◌, ◌-◌, ◌*◌, ◌-ℤ◌, List, [], ◌∷◌, ◌++◌, codes, decimal, nat_eq, if◌then◌else◌}
+use Rattle.hw_draft.specs.Passages.{waypoint_name}
 use Rattle.hw_chart_svg.specs.Joined.{joined}
 use Rattle.hw_chart_svg.specs.Lettering.{line, name_line}
 use Rattle.hw_chart_svg.specs.Numbers.{clock, metres, tonnes_label}
 use Rattle.hw_port.specs.Parts.{ShipParts}
 use Rattle.hw_port_model.specs.Numbers.{whole, is_outgoing}
 use Rattle.hw_chart_port.specs.declared.sailing.Sailing.{Sailing}
-use Rattle.hw_chart_port.specs.Charts.{ChartParts, full_of, charted_waypoint_name}
+use Rattle.hw_chart_port.specs.Charts.{ChartParts, full_of}
 
 -- when the ship sails, and in which slot
 abbrev pub time_figures : Sailing → ℕ → List ℕ
@@ -29,15 +30,11 @@ tight g = if nat_eq g.draft g.allowed then codes "r q" else codes "r"
 
 -- the allowed draft, and the waypoint that decides it
 abbrev pub allowed_figures : ChartParts → Sailing → ℕ → List ℕ
-allowed_figures chart g y = line (tight g) 1100 (y + 17) (metres g.allowed) ++ name_line (codes "r m") 1100 (y + 33) (charted_waypoint_name chart g.by) 72
+allowed_figures chart g y = line (tight g) 1100 (y + 17) (metres g.allowed) ++ name_line (codes "r m") 1100 (y + 33) (waypoint_name chart.port g.by) 72
 
--- the water under the keel where the draft is decided
-abbrev pub keel_of_sailing : Sailing → ℕ
-keel_of_sailing g = g.allowed - g.draft + g.clearance
-
--- the same, and how much there must be
+-- the water under the keel where the draft is decided, and how much there must be
 abbrev pub keel_figures : Sailing → ℕ → List ℕ
-keel_figures g y = line (tight g) 1186 (y + 17) (metres (keel_of_sailing g)) ++ line (codes "r m") 1186 (y + 33) (joined (codes "min " ∷ metres g.clearance ∷ []))
+keel_figures g y = line (tight g) 1186 (y + 17) (metres g.keel) ++ line (codes "r m") 1186 (y + 33) (joined (codes "min " ∷ metres g.clearance ∷ []))
 
 -- what an outgoing ship carries at its deepest draft, in tenths of a tonne
 abbrev pub deepest_cargo : ShipParts → ℕ

@@ -83,8 +83,8 @@ sailing_has chart HoldsTugs v s slot = nat_lt 0 (whole s.tugs)
 sailing_has chart TugsTurn v s slot = nat_lt 0 (whole s.tugs) && nat_lt 0 (turnaround_of chart.port s)
 sailing_has chart MustWait v s slot = awaits_berth chart v || awaits_ship chart v
 sailing_has chart WaitsOn v s slot = waits_on chart v
-sailing_has chart AtLimit v s slot = is_at_limit (sailing_of chart v s slot)
-sailing_has chart BelowFull v s slot = is_below_full s (sailing_of chart v s slot)
+sailing_has chart AtLimit v s slot = is_at_limit (sailing_of chart v slot)
+sailing_has chart BelowFull v s slot = is_below_full s (sailing_of chart v slot)
 
 abbrev pub course_has : ChartParts → SailingMark → ℕ → ShipParts → Course → Bool
 course_has chart mark v s Unplanned = false

@@ -1,6 +1,7 @@
 -- The passes of ships at a waypoint, each with the tide that it needs.
 use Rattle.std.specs.Prelude.{ℕ, ◌+◌, ℤ, pos, ◌+ℤ◌, ◌-ℤ◌, List, [], ◌∷◌, ◌++◌, codes, decimal, nat_eq, if◌then◌else◌, unsigned_abs}
 use Rattle.std.specs.Int.{int_max}
+use Rattle.hw_draft.specs.Passages.{passage_of, under_keel, water, waypoint_name}
 use Rattle.hw_chart_svg.specs.Joined.{joined}
 use Rattle.hw_chart_svg.specs.Names.{escaped}
 use Rattle.hw_chart_svg.specs.Numbers.{clock, metres}
@@ -9,33 +10,33 @@ use Rattle.hw_chart_svg.specs.declared.area.Area.{Area}
 use Rattle.hw_port.specs.declared.parts.Pass.{Pass}
 use Rattle.hw_port.specs.Parts.{ShipParts}
 use Rattle.hw_port_model.specs.Numbers.{whole}
-use Rattle.hw_port_model.specs.Drafts.{passing_slot}
+use Rattle.hw_draft.specs.declared.passage.Passage.{Passage}
 use Rattle.hw_chart.specs.declared.course.Course.{Course}
 use Rattle.hw_chart.specs.declared.course.Course.TheVariants.{Unplanned, Stays, Sails}
 use Rattle.hw_chart_port.specs.declared.passing.Strip.{Strip}
 use Rattle.hw_chart_port.specs.declared.passing.Underway.{Underway}
 use Rattle.hw_chart_port.specs.declared.passing.Passing.{Passing}
-use Rattle.hw_chart_port.specs.Charts.{ChartParts, course, draft_in, judging_height, mark_class, minutes_to, tall_between, charted_waypoint_name}
+use Rattle.hw_chart_port.specs.Charts.{ChartParts, course, draft_in, mark_class, minutes_to, tall_between}
 
 -- the tide without which a ship of this draft would not keep its clearance, or the lowest tide where that is higher
 abbrev pub need : Strip → ℕ → ℕ → ℤ
 need strip draft clearance = int_max strip.low (pos draft +ℤ pos clearance -ℤ pos strip.depth)
 
--- the depth of the water at a waypoint in a slot, by the height that judges passes there
-abbrev pub water : ChartParts → Strip → ℕ → ℤ
-water chart strip slot = pos strip.depth +ℤ judging_height chart slot strip.place
-
--- how a ship that is under way makes a pass: when, with how much water and how much of it under the keel
-abbrev pub passing : ChartParts → Strip → Underway → Pass → Passing
-passing chart strip ship pass = record {
-  slot = passing_slot ship.slot pass;
-  time = minutes_to chart (passing_slot ship.slot pass);
-  draft = ship.draft;
-  water = whole (water chart strip (passing_slot ship.slot pass));
-  keel = whole (water chart strip (passing_slot ship.slot pass) -ℤ pos ship.draft);
-  clearance = whole pass.clearance;
-  level = unsigned_abs (strip.high -ℤ need strip ship.draft (whole pass.clearance));
+-- how a ship of this draft makes a passage: when, with how much water and how much of it under the keel
+abbrev pub passing_by : ChartParts → Strip → ℕ → Passage → Passing
+passing_by chart strip draft m = record {
+  slot = m.slot;
+  time = minutes_to chart m.slot;
+  draft = draft;
+  water = whole (water m);
+  keel = whole (under_keel m (pos draft));
+  clearance = whole m.clearance;
+  level = unsigned_abs (strip.high -ℤ need strip draft (whole m.clearance));
 }
+
+-- how a ship that is under way makes a pass
+abbrev pub passing : ChartParts → Strip → Underway → Pass → Passing
+passing chart strip ship pass = passing_by chart strip ship.draft (passage_of chart.port chart.tide ship.slot pass)
 
 -- when a ship passes, and in how much water
 unfoldable pub passing_title : List ℕ → List ℕ → Passing → List ℕ
@@ -51,7 +52,7 @@ passing_mark strip s waypoint p = titled (mark_class s) (passing_area strip p) (
 
 -- the mark of a pass at this waypoint
 abbrev pub mark_here : ChartParts → Strip → Underway → ShipParts → Pass → List ℕ
-mark_here chart strip ship s pass = passing_mark strip s (charted_waypoint_name chart strip.place) (passing chart strip ship pass)
+mark_here chart strip ship s pass = passing_mark strip s (waypoint_name chart.port strip.place) (passing chart strip ship pass)
 
 -- a pass, where it is one of this waypoint
 abbrev pub pass_mark : ChartParts → Strip → Underway → ShipParts → Pass → List ℕ

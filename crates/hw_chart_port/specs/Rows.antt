@@ -56,7 +56,7 @@ abbrev pub row_left : ℕ → ShipParts → ℕ → List ℕ
 row_left v s y = arrow s y ++ row_label v s y
 
 abbrev pub sailing_parts : ChartParts → ℕ → ShipParts → ℕ → ℕ → List ℕ
-sailing_parts chart v s slot y = joined (pin (way s) slot chart.span y ∷ bars chart v s slot y ∷ figures chart s (sailing_of chart v s slot) y ∷ [])
+sailing_parts chart v s slot y = joined (pin (way s) slot chart.span y ∷ bars chart v s slot y ∷ figures chart s (sailing_of chart v slot) y ∷ [])
 
 -- what the timetable says of the ship
 abbrev pub row_right : ChartParts → ℕ → ShipParts → ℕ → Course → List ℕ

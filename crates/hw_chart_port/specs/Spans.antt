@@ -1,18 +1,13 @@
 -- How many slots a picture shows: those in which ships sail, and those that the sailings reach after them.
 use Rattle.std.specs.Prelude.{ℕ, ◌+◌, max, List, [], ◌∷◌, Option, nat_lt, if◌then◌else◌}
-use Rattle.hw_port.specs.declared.parts.Pass.{Pass}
 use Rattle.hw_port.specs.declared.parts.Stretch.{Stretch}
 use Rattle.hw_port.specs.Parts.{ShipParts}
 use Rattle.hw_port.specs.Whole.{Parts}
 use Rattle.hw_port_model.specs.Numbers.{whole, horizon_of, hold_of}
+use Rattle.hw_draft.specs.LastPasses.{last_pass}
 use Rattle.hw_chart.specs.declared.course.Course.{Course}
 use Rattle.hw_chart.specs.declared.course.Course.TheVariants.{Unplanned, Stays, Sails}
 use Rattle.hw_chart_port.specs.Charts.{course_in}
-
--- how many slots after sailing the last pass comes
-abbrev pub last_pass_offset : List Pass → ℕ
-last_pass_offset [] = 0
-last_pass_offset (pass ∷ more) = max (whole pass.offset) (last_pass_offset more)
 
 -- how many slots after sailing the last section is left
 abbrev pub last_leave : List Stretch → ℕ
@@ -25,7 +20,7 @@ slots_with_tugs p s = if nat_lt 0 (whole s.tugs) then hold_of p s else 0
 
 -- how many slots a sailing takes, until the ship has passed its route, left its sections and freed its tugs
 abbrev pub reach : Parts → ShipParts → ℕ
-reach p s = max (last_pass_offset s.route + 1) (max (last_leave s.channel) (slots_with_tugs p s))
+reach p s = max ((last_pass s.route).offset + 1) (max (last_leave s.channel) (slots_with_tugs p s))
 
 -- the slot up to which a course reaches, 0 where the ship doesn't sail
 abbrev pub course_end : Course → ℕ → ℕ

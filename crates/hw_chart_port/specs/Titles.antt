@@ -1,5 +1,6 @@
 -- The title of a ship's row: the whole row in words.
 use Rattle.std.specs.Prelude.{ℕ, List, [], ◌∷◌, ◌++◌, codes, decimal}
+use Rattle.hw_draft.specs.Passages.{waypoint_name}
 use Rattle.hw_chart_svg.specs.Joined.{joined}
 use Rattle.hw_chart_svg.specs.Names.{escaped}
 use Rattle.hw_chart_svg.specs.Numbers.{clock, metres, tonnes_label}
@@ -7,7 +8,7 @@ use Rattle.hw_port.specs.Parts.{ShipParts}
 use Rattle.hw_chart.specs.declared.course.Course.{Course}
 use Rattle.hw_chart.specs.declared.course.Course.TheVariants.{Unplanned, Stays, Sails}
 use Rattle.hw_chart_port.specs.declared.sailing.Sailing.{Sailing}
-use Rattle.hw_chart_port.specs.Charts.{ChartParts, by_direction, charted_waypoint_name}
+use Rattle.hw_chart_port.specs.Charts.{ChartParts, by_direction}
 use Rattle.hw_chart_port.specs.Sailings.{sailing_of}
 
 unfoldable pub ship_title : List ℕ → ℕ → List ℕ
@@ -23,13 +24,13 @@ unfoldable pub load_title : List ℕ → Sailing → List ℕ
 load_title by g = joined (codes ", draft " ∷ metres g.draft ∷ codes " m, allowed " ∷ metres g.allowed ∷ codes " m by " ∷ escaped by ∷ codes ", cargo " ∷ tonnes_label g.cargo ∷ codes " t" ∷ [])
 
 abbrev pub sailing_title : ChartParts → ShipParts → Sailing → List ℕ
-sailing_title chart s g = joined (way_title s ∷ time_title g ∷ load_title (charted_waypoint_name chart g.by) g ∷ [])
+sailing_title chart s g = joined (way_title s ∷ time_title g ∷ load_title (waypoint_name chart.port g.by) g ∷ [])
 
 -- what the timetable says of the ship
 abbrev pub course_title : ChartParts → ℕ → ShipParts → Course → List ℕ
 course_title chart v s Unplanned = []
 course_title chart v s Stays = codes ", stays"
-course_title chart v s (Sails slot) = sailing_title chart s (sailing_of chart v s slot)
+course_title chart v s (Sails slot) = sailing_title chart s (sailing_of chart v slot)
 
 abbrev pub row_title : ChartParts → ℕ → ShipParts → Course → List ℕ
 row_title chart v s course = ship_title s.name v ++ course_title chart v s course

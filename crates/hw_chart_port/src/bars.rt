@@ -7,12 +7,13 @@ ghost use Rattle.hw_port_model.specs.Numbers.{whole};
 ghost use Rattle.hw_chart_port.specs.Bars.{bars, clearing_for, clearings, tugs_where};
 
 use crate::chart::Chart;
-use crate::numbers::{by_direction, natural};
-use crate::span::{hold, last_pass};
+use crate::numbers::by_direction;
+use crate::span::hold;
 use crate::stays::put_stays;
 use hw_chart::{put_bar, put_bars_begin};
 use hw_chart_svg::put_svg_end;
 use hw_desk::Writer;
+use hw_draft::{last_pass, natural};
 use hw_model::{MOST_SLOTS, ShipId, Slot};
 use hw_port::{BerthPair, Ship};
 
@@ -101,7 +102,7 @@ pub fn put_bars<W: Writer>(
     put_clearings(out, chart, number, &parts.berths);
     put_stays(out, chart, number, &parts.after);
     let from = u64::from(slot);
-    let last = u64::from(last_pass(parts.waypoints.len(), &ship.route));
+    let last = u64::from(last_pass(parts.waypoints.len(), &ship.route).offset);
     put_bar(
         out,
         by_direction(ship, b"ou", b"in"),

@@ -1,21 +1,21 @@
 //! What a picture is drawn from.
 
-ghost use Rattle.std.specs.Prelude.{◌≡◌, ◌≤◌, ◌<◌, ◌≤ℤ◌, pos, length, All, is_some, IfSome, option_map, ◌*◌, ◌+◌, false, slice_get, slice_index_or};
-ghost use Rattle.std.specs.Option.{option_map_or};
-ghost use Rattle.hw_port.specs.Kept.{PortKept, ShipKept, WaypointKept};
+ghost use Rattle.std.specs.Prelude.{◌≡◌, ◌≤◌, ◌<◌, ◌≤ℤ◌, pos, length, All, is_some, IfSome, option_map, ◌*◌, ◌+◌, false, slice_index_or};
+ghost use Rattle.hw_port.specs.Kept.{PassKept, PortKept, ShipKept};
 ghost use Rattle.hw_port_model.specs.Numbers.{horizon_of, whole};
 ghost use Rattle.hw_port_model.specs.Drafts.{allowed, sailing as sailing_draft};
+ghost use Rattle.hw_draft.specs.Passages.{PassageKept, limiting, passage_of, waypoint_name};
 ghost use Rattle.hw_chart.specs.Courses.{SailsBefore};
-ghost use Rattle.hw_tide.specs.Levels.{height_at};
-ghost use Rattle.hw_chart_port.specs.Charts.{cargo_in, course as course_of_ship, depth_in, draft_in, judging_height as judged_height, midnight_of, minutes_to, slot_in_chart as slot_or_0, shown, charted_waypoint_name};
+ghost use Rattle.hw_chart_port.specs.Charts.{cargo_in, course as course_of_ship, draft_in, midnight_of, minutes_to, slot_in_chart as slot_or_0, shown};
 ghost use Rattle.hw_chart_port.specs.Moves.{could_move, HasMoves};
 
-use crate::numbers::{natural, product};
+use crate::numbers::product;
 use crate::span::slot_of;
 use hw_chart::{Course, course_at};
 use hw_chart_flat::Plan;
+use hw_draft::{Passage, natural};
 use hw_model::{MOST_SHIPS, MOST_SLOTS, ShipId, Slot};
-use hw_port::{Port, PortParts, Ship, Waypoint};
+use hw_port::{Pass, Port, PortParts, Ship};
 use hw_tide::Tide;
 use std::marker::Model;
 
@@ -38,17 +38,6 @@ impl<'p> Model for Chart<'p> {
     ghost view = { λ c. record { port = c.port.now; tide = c.tide.now; table = option_map (λ plan. plan.now.table) c.plan; span = c.span } };
 
     ghost invariant = { λ c. IsChart (record { port = c.port.now; tide = c.tide.now; table = option_map (λ plan. plan.now.table) c.plan; span = c.span }) × HasMoves c.port.now c.tide.now (option_map (λ plan. plan.now) c.plan) };
-}
-
-/// The charted depth at a waypoint.
-fn depth_of(waypoints: &[Waypoint], place: u32) -> i64
-    requires kept { All WaypointKept waypoints.now }
-    requires place { place < length waypoints.now }
-    ensures value { result ≡ option_map_or (λ w. w.depth) (slice_get waypoints.now place) (pos 0) }
-    ensures low { pos 0 ≤ℤ result }
-    ensures high { result ≤ℤ pos 10_000 }
-{
-    waypoints[place as usize].depth
 }
 
 impl Chart<'_> {
@@ -216,51 +205,31 @@ impl Chart<'_> {
         hw_draft::value(self.port, self.tide, ship, slot).unwrap_or(0)
     }
 
+    /// The pass that limits the draft of a ship in a slot, where its draft is known.
+    pub fn limit(&self, ship: ShipId, slot: Slot) -> Option<Passage>
+        requires ship_in { ship < length self.now.port.ships }
+        requires slot_in { slot < horizon_of self.now.port }
+        ensures value { result ≡ limiting self.now.port self.now.tide ship slot }
+        ensures kept { IfSome result PassageKept }
+    {
+        hw_draft::limiting(self.port, self.tide, ship, slot)
+    }
+
+    /// A pass of a ship that sails in a slot.
+    pub fn passage(&self, slot: Slot, pass: &Pass) -> Passage
+        requires slot { slot < MOST_SLOTS }
+        requires pass { PassKept (pos (length self.now.port.waypoints)) pass.now }
+        ensures value { result ≡ passage_of self.now.port self.now.tide slot pass.now }
+        ensures kept { PassageKept result }
+    {
+        hw_draft::passage_of(self.parts(), self.tide, slot, pass)
+    }
+
     /// The name of a waypoint.
     pub fn waypoint(&self, place: u32) -> &[u8]
-        ensures { result.now ≡ charted_waypoint_name self.now place }
+        ensures { result.now ≡ waypoint_name self.now.port place }
     {
-        match self.parts().waypoints.get(place as usize) {
-            Some(waypoint) => &waypoint.name.items,
-            None => b"",
-        }
-    }
-
-    /// The charted depth at a waypoint, in centimetres.
-    pub fn depth(&self, place: u32) -> i64
-        requires { place < length self.now.port.waypoints }
-        ensures value { result ≡ depth_in self.now place }
-        ensures low { pos 0 ≤ℤ result }
-        ensures high { result ≤ℤ pos 10_000 }
-    {
-        depth_of(&self.parts().waypoints, place)
-    }
-
-    /// The height of the water in a slot at a waypoint, 0 outside the tide.
-    pub fn height(&self, slot: Slot, place: u32) -> i32
-        requires { place < length self.now.port.waypoints }
-        ensures { result ≡ height_at self.now.tide slot place }
-    {
-        let tide = self.tide;
-        if slot < tide.rows {
-            tide.height(slot, place)
-        } else {
-            0
-        }
-    }
-
-    /// The height that judges a pass in a slot at a waypoint.
-    pub fn judged(&self, slot: Slot, place: u32) -> i32
-        requires place { place < length self.now.port.waypoints }
-        requires slot { slot ≤ 2_000 }
-        ensures { result ≡ judged_height self.now slot place }
-    {
-        let here = self.height(slot, place);
-        if self.parts().is_least() {
-            here.min(self.height(slot + 1, place))
-        } else {
-            here
-        }
+        hw_draft::waypoint_name(self.parts(), place)
     }
 
     /// The slots of the tide that the picture shows.

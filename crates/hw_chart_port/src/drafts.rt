@@ -8,12 +8,13 @@ ghost use Rattle.hw_chart.specs.Courses.{SailsBefore};
 ghost use Rattle.hw_chart_port.specs.Drafts.{draft_level, drafts_text, full_steps, fullness_level, moves_text, open_level, sailing_where, window_of};
 
 use crate::chart::Chart;
-use crate::numbers::{by_direction, full_of, natural, tall_over};
+use crate::numbers::{by_direction, full_of, tall_over};
 use hw_chart::{
     Course, Sailings, put_moves_window, put_sailing_mark, put_sailing_steps, put_sailings_begin,
 };
 use hw_chart_svg::{Levels, put_svg_end};
 use hw_desk::Writer;
+use hw_draft::natural;
 use hw_model::ShipId;
 use hw_port::Ship;
 

@@ -8,10 +8,11 @@ ghost use Rattle.hw_port_model.specs.Numbers.{whole};
 ghost use Rattle.hw_chart_port.specs.Figures.{deepest_cargo as capacity_of, cargo_figures, draft_figures, figures, shortness, tight as tight_class};
 
 use crate::chart::Chart;
-use crate::numbers::{natural, natural_full, product};
+use crate::numbers::{natural_full, product};
 use crate::sailing::Sailing;
 use hw_chart_svg::{Piece, put_line, put_name_line};
 use hw_desk::Writer;
+use hw_draft::natural;
 use hw_port::Ship;
 
 /// How much a draft is short of the full one, in two pieces.
@@ -96,14 +97,12 @@ fn put_cargo<W: Writer>(out: &mut W, chart: &Chart, ship: &Ship, sailing: Sailin
 /// Puts the numbers of a sailing, in a row that begins here: when the ship sails, its draft, the allowed draft and the waypoint
 /// that decides it, the water under the keel there and how much there must be, and the cargo.
 pub fn put_figures<W: Writer>(out: &mut W, chart: &Chart, ship: &Ship, sailing: Sailing, y: u32)
-    requires ship { ShipKept chart.now.port ship.now }
-    requires fits { sailing.allowed ≤ 9_223_372_036_854_775_808 }
+    requires { ShipKept chart.now.port ship.now }
     ensures { Puts (figures chart.now ship.now sailing y) (W.state out.old) (W.state out.new) }
 {
     let row = u64::from(y);
     let class = tight(sailing);
     let clearance = u64::from(sailing.clearance);
-    let keel = sailing.allowed.saturating_sub(u64::from(sailing.draft)) + clearance;
     let slot = [
         Piece::Word(b"slot "),
         Piece::Number(u64::from(sailing.slot)),
@@ -120,7 +119,7 @@ pub fn put_figures<W: Writer>(out: &mut W, chart: &Chart, ship: &Ship, sailing: 
         &[Piece::Metres(sailing.allowed)],
     );
     put_name_line(out, b"r m", 1100, row + 33, chart.waypoint(sailing.by), 72);
-    put_line(out, class, 1186, row + 17, &[Piece::Metres(keel)]);
+    put_line(out, class, 1186, row + 17, &[Piece::Metres(sailing.keel)]);
     put_line(out, b"r m", 1186, row + 33, &least);
     put_cargo(out, chart, ship, sailing, y);
 }

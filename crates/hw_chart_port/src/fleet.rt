@@ -9,12 +9,12 @@ ghost use Rattle.hw_chart_port.specs.Fleets.{fleet_panel, tugs_held_in, panel_of
 ghost use Rattle.hw_chart_port.specs.Marks.{is_fleet_held as whole_fleet_held};
 
 use crate::chart::Chart;
-use crate::numbers::natural;
 use crate::places::places_of;
 use crate::span::hold;
 use hw_chart::{Panel, put_planned_panel, put_unplanned_panel, reaches};
 use hw_chart_svg::Levels;
 use hw_desk::Writer;
+use hw_draft::natural;
 use hw_model::{MOST_SHIPS, MOST_TUGS, Slot};
 use hw_port::{PortParts, Ship};
 

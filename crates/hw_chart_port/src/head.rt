@@ -7,10 +7,10 @@ ghost use Rattle.hw_port.specs.Kept.{PortKept};
 ghost use Rattle.hw_chart_port.specs.Heads.{columns_where, places, sizes as sizes_of, sizes_text};
 
 use crate::chart::Chart;
-use crate::numbers::natural;
 use crate::places::places_of;
 use hw_chart_svg::{Piece, put_line};
 use hw_desk::Writer;
+use hw_draft::natural;
 use hw_port::PortParts;
 
 /// The sizes of a port, in pieces.

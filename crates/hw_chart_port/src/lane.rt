@@ -8,13 +8,14 @@ ghost use Rattle.hw_chart.specs.Courses.{SailsBefore};
 ghost use Rattle.hw_chart_port.specs.Lanes.{course_stays, lane_text, lanes_from, stay_mark, stay_of, stay_title, stays_from, stretch_mark, stretch_marks};
 
 use crate::chart::Chart;
-use crate::numbers::{by_direction, natural};
+use crate::numbers::by_direction;
 use crate::places::places_of;
 use hw_chart::{Course, plot};
 use hw_chart_svg::{
     Area, Piece, put_block, put_line, put_name_line, put_svg_end, put_titled, put_window_begin,
 };
 use hw_desk::Writer;
+use hw_draft::natural;
 use hw_model::{MOST_SHIPS, MOST_SLOTS, ShipId, Slot};
 use hw_port::{Section, Ship, Stretch};
 

@@ -12,12 +12,13 @@ ghost use Rattle.hw_chart_port.specs.Moves.{could_move};
 use crate::bars::{incoming_of, tugs_of};
 use crate::chart::Chart;
 use crate::fleet::is_fleet_held;
-use crate::numbers::{full_of, natural, natural_full};
+use crate::numbers::{full_of, natural_full};
 use crate::reasons::{Reason, has_no_slot, is_reason_for};
 use crate::sailing::sailing_of;
 use crate::span::turnaround;
 use crate::stays::{first_of, second_of};
 use hw_chart::Course;
+use hw_draft::natural;
 use hw_model::{MOST_SHIPS, ShipId, Slot};
 use hw_port::{AfterPair, BerthPair, Ship};
 
@@ -177,11 +178,11 @@ fn sailing_has(chart: &Chart, mark: SailingMark, number: ShipId, ship: &Ship, sl
         }
         SailingMark::WaitsOn => waits_on(chart, number, &parts.after),
         SailingMark::AtLimit => {
-            let sailing = sailing_of(chart, number, ship, slot);
+            let sailing = sailing_of(chart, number, slot);
             u64::from(sailing.draft) == sailing.allowed
         }
         SailingMark::BelowFull => {
-            ship.is_outgoing() && sailing_of(chart, number, ship, slot).draft != natural_full(ship)
+            ship.is_outgoing() && sailing_of(chart, number, slot).draft != natural_full(ship)
         }
     }
 }

@@ -1,20 +1,12 @@
 //! Numbers of a port as a picture uses them.
 
-ghost use Rattle.std.specs.Prelude.{◌≡◌, ◌≤◌, ◌*◌, ◌≤ℤ◌, pos};
+ghost use Rattle.std.specs.Prelude.{◌≡◌, ◌≤◌, ◌*◌, pos};
 ghost use Rattle.hw_port.specs.Kept.{Within};
 ghost use Rattle.hw_port_model.specs.Numbers.{whole};
 ghost use Rattle.hw_chart_port.specs.Charts.{by_direction, full_of as full_draft, tall_over as tall_of};
 
+use hw_draft::natural;
 use hw_port::Ship;
-
-/// A number of a port that is never negative.
-pub fn natural(number: i64) -> u32
-    requires least { pos 0 ≤ℤ number }
-    requires most { number ≤ℤ pos 100_000 }
-    ensures { result ≡ whole number }
-{
-    number.unsigned_abs() as u32
-}
 
 /// The product of two numbers.
 pub fn product(a: u32, b: u32) -> u64

@@ -5,16 +5,17 @@ ghost use Rattle.hw_desk.specs.Writers.{Puts};
 ghost use Rattle.hw_chart_svg.specs.Pieces.{picture_pieces_text};
 ghost use Rattle.hw_port.specs.Kept.{PassKept, ShipKept};
 ghost use Rattle.hw_port_model.specs.Numbers.{horizon_of, whole};
-ghost use Rattle.hw_port_model.specs.Drafts.{passing_slot};
+ghost use Rattle.hw_draft.specs.Passages.{PassageKept};
 ghost use Rattle.hw_chart.specs.Courses.{SailsBefore};
-ghost use Rattle.hw_chart_port.specs.Charts.{tall_between as tall_of, charted_waypoint_name};
-ghost use Rattle.hw_chart_port.specs.Passings.{course_marks, marks_from, need as need_of, pass_mark, pass_marks, passing, passing_title, water as water_of};
+ghost use Rattle.hw_chart_port.specs.Charts.{tall_between as tall_of};
+ghost use Rattle.hw_chart_port.specs.Passings.{course_marks, marks_from, need as need_of, pass_mark, pass_marks, passing, passing_by, passing_title};
 
 use crate::chart::Chart;
-use crate::numbers::{by_direction, natural, tall_over};
+use crate::numbers::{by_direction, tall_over};
 use hw_chart::Course;
 use hw_chart_svg::{Area, Piece, put_titled};
 use hw_desk::Writer;
+use hw_draft::{Passage, natural};
 use hw_model::{MOST_SHIPS, MOST_SLOTS, ShipId, Slot};
 use hw_port::{Pass, Ship};
 
@@ -63,36 +64,6 @@ fn need(strip: Strip, draft: u32, clearance: u32) -> i64
     i64::from(strip.low).max(i64::from(draft) + i64::from(clearance) - i64::from(strip.depth))
 }
 
-/// The depth of the water in a slot.
-fn water(chart: &Chart, strip: Strip, slot: Slot) -> i64
-    requires place { strip.place < length chart.now.port.waypoints }
-    requires slot { slot ≤ 2_000 }
-    ensures value { result ≡ water_of chart.now strip slot }
-    ensures low { neg_ℤ (pos 5_000_000_000) ≤ℤ result }
-    ensures high { result ≤ℤ pos 7_000_000_000 }
-{
-    i64::from(strip.depth) + i64::from(chart.judged(slot, strip.place))
-}
-
-/// The slot in which a ship that sails in a slot makes a pass.
-pub fn slot_of_pass(waypoints: usize, slot: Slot, pass: &Pass) -> Slot
-    requires slot { slot < MOST_SLOTS }
-    requires pass { PassKept (pos waypoints) pass.now }
-    ensures value { result ≡ passing_slot slot pass.now }
-    ensures few { result ≤ 2_000 }
-{
-    slot + natural(pass.offset)
-}
-
-/// The water under the keel of a ship of this draft.
-fn keel(water: i64, draft: u32) -> u64
-    requires low { neg_ℤ (pos 5_000_000_000) ≤ℤ water }
-    requires high { water ≤ℤ pos 7_000_000_000 }
-    ensures { result ≡ whole (water -ℤ pos draft) }
-{
-    (water - i64::from(draft)).unsigned_abs()
-}
-
 /// How far the tide that a ship needs stays below the greatest one.
 fn level(strip: Strip, draft: u32, clearance: u32) -> u64
     ensures { result ≡ unsigned_abs (strip.high -ℤ need_of strip draft clearance) }
@@ -101,7 +72,7 @@ fn level(strip: Strip, draft: u32, clearance: u32) -> u64
 }
 
 /// The place of a pass's waypoint.
-pub fn place_of(chart: &Chart, pass: &Pass) -> u32
+fn place_of(chart: &Chart, pass: &Pass) -> u32
     requires { PassKept (pos (length chart.now.port.waypoints)) pass.now }
     ensures { result ≡ whole pass.now.waypoint }
 {
@@ -109,26 +80,30 @@ pub fn place_of(chart: &Chart, pass: &Pass) -> u32
     natural(pass.waypoint)
 }
 
+/// How a ship of this draft makes a passage.
+fn passing_by(chart: &Chart, strip: Strip, draft: u32, made: Passage) -> Passing
+    requires { PassageKept made }
+    ensures { result ≡ passing_by chart.now strip draft made }
+{
+    let clearance = natural(made.clearance);
+    Passing {
+        slot: made.slot,
+        time: chart.minutes_to(made.slot),
+        draft,
+        water: made.water().unsigned_abs(),
+        keel: made.under_keel(i64::from(draft)).unsigned_abs(),
+        clearance,
+        level: level(strip, draft, clearance),
+    }
+}
+
 /// How a ship that is under way makes a pass.
 fn passing_of(chart: &Chart, strip: Strip, ship: Underway, pass: &Pass) -> Passing
-    requires place { strip.place < length chart.now.port.waypoints }
     requires slot { ship.slot < MOST_SLOTS }
     requires pass { PassKept (pos (length chart.now.port.waypoints)) pass.now }
     ensures { result ≡ passing chart.now strip ship pass.now }
 {
-    let waypoints = chart.parts().waypoints.len();
-    let slot = slot_of_pass(waypoints, ship.slot, pass);
-    let clearance = natural(pass.clearance);
-    let water = water(chart, strip, slot);
-    Passing {
-        slot,
-        time: chart.minutes_to(slot),
-        draft: ship.draft,
-        water: water.unsigned_abs(),
-        keel: keel(water, ship.draft),
-        clearance,
-        level: level(strip, ship.draft, clearance),
-    }
+    passing_by(chart, strip, ship.draft, chart.passage(ship.slot, pass))
 }
 
 /// When a ship makes a pass, and in how much water, in pieces.

@@ -10,10 +10,10 @@ ghost use Rattle.hw_chart_port.specs.Reasons.{clash_hint_where, each_may_sail, h
 
 use crate::chart::Chart;
 use crate::closings::is_closed;
-use crate::numbers::natural;
 use hw_cert_lines::Verdict;
 use hw_chart_svg::{Piece, put_line};
 use hw_desk::Writer;
+use hw_draft::natural;
 use hw_model::{ShipId, Slot};
 use hw_port::Ship;
 

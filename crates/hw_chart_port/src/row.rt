@@ -89,7 +89,7 @@ fn put_course<W: Writer>(out: &mut W, chart: &Chart, number: ShipId, ship: &Ship
         Course::Unplanned => put_no_slot_where(out, chart, number, ship, y),
         Course::Stays => put_stays(out, y),
         Course::Sails(slot) => {
-            let sailing = sailing_of(chart, number, ship, slot);
+            let sailing = sailing_of(chart, number, slot);
             put_pin(out, by_direction(ship, b"ou", b"in"), slot, chart.span(), y);
             put_bars(out, chart, number, ship, slot, y);
             put_figures(out, chart, ship, sailing, y);

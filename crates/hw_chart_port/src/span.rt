@@ -1,29 +1,17 @@
 //! How many slots a picture shows.
 
 ghost use Rattle.std.specs.Prelude.{◌≡◌, ◌≤◌, ◌<◌, ◌+◌, length, All, option_map, pos};
-ghost use Rattle.hw_port.specs.Kept.{PassKept, PortKept, ShipKept, StretchKept};
+ghost use Rattle.hw_port.specs.Kept.{PortKept, ShipKept, StretchKept};
 ghost use Rattle.hw_port_model.specs.Numbers.{hold_of, horizon_of, turnaround_of};
 ghost use Rattle.hw_chart.specs.Courses.{SailsBefore};
 ghost use Rattle.hw_chart_port.specs.Charts.{course_in, slot_in};
-ghost use Rattle.hw_chart_port.specs.Spans.{course_end, ends_from, slots_with_tugs, last_leave, last_pass_offset, reach as reach_of, port_picture_span};
+ghost use Rattle.hw_chart_port.specs.Spans.{course_end, ends_from, slots_with_tugs, last_leave, reach as reach_of, port_picture_span};
 
-use crate::numbers::natural;
 use hw_chart::{Course, course_at};
 use hw_chart_flat::Plan;
+use hw_draft::{last_pass, natural};
 use hw_model::{MOST_SHIPS, MOST_SLOTS, ShipId, Slot};
-use hw_port::{Pass, Port, PortParts, Ship, Stretch};
-
-/// How many slots after sailing a ship makes the last pass of a route.
-pub fn last_pass(waypoints: usize, route: &[Pass]) -> u32
-    requires { All (PassKept (pos waypoints)) route.now }
-    ensures value { result ≡ last_pass_offset route.now }
-    ensures few { result ≤ 1_023 }
-{
-    match route {
-        [] => 0,
-        [pass, more @ ..] => natural(pass.offset).max(last_pass(waypoints, more)),
-    }
-}
+use hw_port::{Port, PortParts, Ship, Stretch};
 
 /// How many slots after sailing a ship leaves the last section of a channel.
 fn last_leave(sections: usize, channel: &[Stretch]) -> u32
@@ -81,7 +69,7 @@ fn reach(parts: &PortParts, ship: &Ship) -> u32
     ensures value { result ≡ reach_of parts.now ship.now }
     ensures few { result ≤ 1_024 }
 {
-    let passed = last_pass(parts.waypoints.len(), &ship.route) + 1;
+    let passed = last_pass(parts.waypoints.len(), &ship.route).offset + 1;
     let left = last_leave(parts.sections.len(), &ship.channel);
     passed.max(left.max(held_for(parts, ship)))
 }

@@ -8,10 +8,11 @@ ghost use Rattle.hw_chart_port.specs.Charts.{slot_in_chart};
 ghost use Rattle.hw_chart_port.specs.Stays.{chart_ship_name as name_of_ship, stay_for, stays_of, wait_of};
 
 use crate::chart::Chart;
-use crate::numbers::{natural, product};
+use crate::numbers::product;
 use hw_chart::put_bar;
 use hw_chart_svg::{Area, Piece, put_titled};
 use hw_desk::Writer;
+use hw_draft::natural;
 use hw_model::ShipId;
 use hw_port::AfterPair;
 

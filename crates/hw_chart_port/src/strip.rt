@@ -7,7 +7,6 @@ ghost use Rattle.hw_chart_port.specs.Strips.{strip_at_place, strip_heights, stri
 
 use crate::chart::Chart;
 use crate::heights::{Heights, heights_at};
-use crate::numbers::natural;
 use crate::passing::{Strip, put_marks, tall};
 use crate::waters::put_strip_waters;
 use hw_chart::plot;
@@ -15,6 +14,7 @@ use hw_chart_svg::{
     Levels, Piece, put_line, put_name_line, put_steps, put_svg_end, put_window_begin,
 };
 use hw_desk::Writer;
+use hw_draft::natural;
 use hw_port::Waypoint;
 use hw_tide::Tide;
 

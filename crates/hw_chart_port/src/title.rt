@@ -25,7 +25,7 @@ fn put_course_title<W: Writer>(out: &mut W, chart: &Chart, number: ShipId, ship:
         Course::Unplanned => out.put(b""),
         Course::Stays => out.put(b", stays"),
         Course::Sails(slot) => {
-            let sailing = sailing_of(chart, number, ship, slot);
+            let sailing = sailing_of(chart, number, slot);
             let by = chart.waypoint(sailing.by);
             out.put(by_direction(ship, b", sails out", b", comes in"));
             put_pieces(

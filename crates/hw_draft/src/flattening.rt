@@ -7,7 +7,7 @@ ghost use Rattle.hw_port_model.specs.Numbers.{horizon_of, some_may_stay as some_
 ghost use Rattle.hw_port_model.specs.Flattened.{flattened};
 ghost use Rattle.hw_port_model.specs.Alike.{IsSameProblem};
 
-use crate::drafts::natural;
+use crate::passage::natural;
 use crate::rules::all_rules;
 use crate::values::{all_values, some_may_stay};
 use hw_flat::Flat;

@@ -1,7 +1,6 @@
 -- What is told of a ship is true of it by the port's rules.
-use Rattle.std.proofs.Common.{◌≡◌, ◌⊎◌, ◌∙◌, ◌<◌, ◌*◌, ℕ, zero, suc, ℤ, ◌≤ℤ◌, ◌+ℤ◌, ◌-ℤ◌, int_lt, nat_lt, Bool, true, false, cond, List, [], ◌∷◌, length, map, decimal, Contains, Option, Some, None, IsSome, option_map, option_and_then, slice_get, get_or, refl, ap, inl, inr, arith}
+use Rattle.std.proofs.Common.{◌≡◌, ◌⊎◌, ◌∙◌, ◌<◌, ◌*◌, ℕ, ℤ, ◌≤ℤ◌, ◌+ℤ◌, ◌-ℤ◌, int_lt, nat_lt, Bool, true, false, cond, List, [], ◌∷◌, map, decimal, Option, Some, None, IsSome, option_map, option_and_then, slice_get, refl, sym, subst, ap, inl, inr, arith}
 use Rattle.std.proofs.lemmas.Bool.{le-ltb}
-use Rattle.std.proofs.lemmas.Bool.Decides.{Decides-int_eq}
 use Rattle.std.proofs.lemmas.Int.{ints}
 use Rattle.std.specs.Int.{int_min}
 use Rattle.hw_port.specs.declared.parts.Pass.{Pass}
@@ -14,12 +13,16 @@ use Rattle.hw_port_laws.proofs.Eachs.{Each, all_of_each}
 use Rattle.hw_port_model.specs.Numbers.{horizon_of, is_outgoing, whole}
 use Rattle.hw_port_model.specs.Drafts.{allowed, allowed_draft, carried, depth_of, draft_at, floating, height_for_pass, may_sail, loaded, sailing, sailing_draft, ship_value, value}
 use Rattle.hw_port_model.specs.Permitted.{Stays}
+use Rattle.hw_draft.specs.declared.passage.Passage.{Passage}
+use Rattle.hw_draft.specs.Laws.{IsLimited}
+use Rattle.hw_draft.specs.Passages.{limit_name, limiting_passage, passage_of, under_keel}
+use Rattle.hw_draft.proofs.Limits.{limits_law}
 use Rattle.hw_port_dates.specs.Moments.{moment_after, start_of}
 use Rattle.hw_port_dates.proofs.Moments.{counts_law}
 use Rattle.hw_port_dates.proofs.Texts.{start_kept}
 use Rattle.hw_port_csv.specs.Fields.{centimetres, tonnes}
 use Rattle.hw_port_csv.specs.Laws.{IsToldOf, RecordsAreTrue, TimesAreTrue}
-use Rattle.hw_port_csv.specs.Passes.{clearance_of, keel_at, leaves_just, limit_name, limiting_pass, under_keel}
+use Rattle.hw_port_csv.specs.Passes.{clearance_of, keel_at}
 use Rattle.hw_port_csv.specs.Sailings.{figure_fields, limit_of, minutes_text, sailing_fields, time_text}
 use Rattle.hw_port_csv.specs.Tables.{course_fields, empty_fields, sailing_of_entry}
 
@@ -30,37 +33,6 @@ times_law = record {
   dated = λ p slot start is kept. let c = counts_law (start_of start) (slot * whole p.slot_minutes) (start_kept start kept) in record { moment = moment_after start (slot * whole p.slot_minutes); exists = c.moment; later = c.count; written = ap (λ o. minutes_text o (slot * whole p.slot_minutes)) is };
   counted = λ p slot is. ap (λ o. minutes_text o (slot * whole p.slot_minutes)) is;
 }
-
--- ---- the pass that limits
-
-module _ (p : Parts) (h : TideParts) (slot : ℕ) (draft : ℤ) where
-  -- the first pass that leaves just this draft is on the route
-  record Limits (route : List Pass) (found : Option Pass) : Type 0 where
-    pass : Pass
-    passed : Contains route pass
-    leaves : draft_at p h slot pass ≡ draft
-    is : found ≡ Some pass
-
-  after : (first : Pass) (more : List Pass) (found : Option Pass) → Limits more found → Limits (first ∷ more) found
-  after first more found l = record { pass = l.pass; passed = (suc l.passed.0, omega (arith, l.passed.1), l.passed.2); leaves = l.leaves; is = l.is }
-
-  -- by the word for a pass that leaves just this draft
-  leaves_is : (pass : Pass) → leaves_just p h slot draft pass ≡ true → draft_at p h slot pass ≡ draft
-  unfolding leaves_just
-  leaves_is pass e = (Decides-int_eq (draft_at p h slot pass) draft).0 e
-
-  is_leaves : (pass : Pass) → draft_at p h slot pass ≡ draft → leaves_just p h slot draft pass ≡ true
-  unfolding leaves_just
-  is_leaves pass e = (Decides-int_eq (draft_at p h slot pass) draft).1 e
-
-  limits_by : (b : Bool) (first : Pass) (more : List Pass) → leaves_just p h slot draft first ≡ b → (b ≡ false → Limits more (limiting_pass p h slot draft more)) → Limits (first ∷ more) (cond b (Some first) (limiting_pass p h slot draft more))
-  limits_by true first more e found = record { pass = first; passed = (0, omega arith, refl); leaves = leaves_is first e; is = refl }
-  limits_by false first more e found = after first more (limiting_pass p h slot draft more) (found refl)
-
-  limits_at : (route : List Pass) (pass : Pass) (k : ℕ) → k < length route → get_or route k pass ≡ pass → draft_at p h slot pass ≡ draft → Limits route (limiting_pass p h slot draft route)
-  limits_at [] pass k lt e d = absurd (omega (arith, lt))
-  limits_at (first ∷ more) pass zero lt e d = limits_by (leaves_just p h slot draft first) first more refl (λ no. let yes = is_leaves first (ap (draft_at p h slot) e ∙ d) in absurd cc)
-  limits_at (first ∷ more) pass (suc k) lt e d = limits_by (leaves_just p h slot draft first) first more refl (λ no. limits_at more pass k (omega (arith, lt)) e d)
 
 -- ---- the drafts
 
@@ -88,42 +60,43 @@ enough_by : (depth height clearance draft a : ℤ) → depth +ℤ height -ℤ cl
 enough_by depth height clearance draft a e le = omega (arith, ints, e, le)
 
 -- the water that is left keeps the clearance of a pass
-keeps_clearance : (p : Parts) (h : TideParts) (slot : ℕ) (draft a : ℤ) (pass : Pass) → draft_at p h slot pass ≡ a → draft ≤ℤ a → pass.clearance ≤ℤ under_keel p h slot draft pass
-unfolding under_keel
+keeps_clearance : (p : Parts) (h : TideParts) (slot : ℕ) (draft a : ℤ) (pass : Pass) → draft_at p h slot pass ≡ a → draft ≤ℤ a → (passage_of p h slot pass).clearance ≤ℤ under_keel (passage_of p h slot pass) draft
+unfolding passage_of
 keeps_clearance p h slot draft a pass e le = enough_by (depth_of p.waypoints pass) (height_for_pass p h slot pass) pass.clearance draft a e le
+
+limit_keeps : (p : Parts) (h : TideParts) (s : ShipParts) (slot : ℕ) (draft a : ℤ) (l : IsLimited p h s slot a) → draft ≤ℤ a → l.limit.clearance ≤ℤ under_keel l.limit draft
+limit_keeps p h s slot draft a l le = subst (λ (m : Passage). m.clearance ≤ℤ under_keel m draft) (sym l.leaves.is) (keeps_clearance p h slot draft a l.leaves.pass l.leaves.leaves le)
 
 -- ---- the fields
 
 module _ (p : Parts) (h : TideParts) (v slot : ℕ) (s : ShipParts) where
   -- by what they show
-  abbrev fields_by : Option ℤ → Option ℤ → Option Pass → Option ℕ → List (List ℕ)
+  abbrev fields_by : Option ℤ → Option ℤ → Option Passage → Option ℕ → List (List ℕ)
   fields_by draft most limit cargo =
-      decimal slot ∷ time_text p slot ∷ centimetres draft ∷ centimetres most ∷ limit_name p limit ∷ centimetres (keel_at p h slot draft limit)
+      decimal slot ∷ time_text p slot ∷ centimetres draft ∷ centimetres most ∷ limit_name p limit ∷ centimetres (keel_at draft limit)
       ∷ centimetres (clearance_of limit) ∷ tonnes cargo ∷ []
 
-  fields_same : {a b c d : Option ℤ} {l m : Option Pass} {x y : Option ℕ} → a ≡ b → c ≡ d → l ≡ m → x ≡ y → fields_by a c l x ≡ fields_by b d m y
+  fields_same : {a b c d : Option ℤ} {l m : Option Passage} {x y : Option ℕ} → a ≡ b → c ≡ d → l ≡ m → x ≡ y → fields_by a c l x ≡ fields_by b d m y
   fields_same {b = b} {c = c} {d = d} {l = l} {m = m} {x = x} e f g k =
       ap (λ o. fields_by o c l x) e ∙ ap (λ o. fields_by b o l x) f ∙ ap (λ o. fields_by b d o x) g ∙ ap (λ o. fields_by b d m o) k
 
   told_by : slice_get p.ships v ≡ Some s → Floats s (allowed_draft p h s slot) (cond (may_sail p s slot) (option_and_then (floating s) (allowed_draft p h s slot)) None) → IsToldOf p h s slot (figure_fields (record { port = p; tide = h; number = v; ship = s; slot = slot }))
   told_by there f =
       let a = (least_draft_law p h s slot f.most).0 f.allowed in
-      let l = limits_at p h slot f.most s.route a.met.0 a.met.1.0 a.met.1.1 a.met.1.2 a.met.2 in
+      let l = limits_law p h s slot f.most a in
       let sails : sailing_draft p h s slot ≡ Some (loaded s f.most) = ap (option_map (loaded s)) f.used in
       let carries : ship_value p h s slot ≡ Some (carried s f.most) = ap (option_map (carried s)) f.used in
       let most : allowed p h v slot ≡ Some f.most = ap (option_and_then (λ (r : ShipParts). allowed_draft p h r slot)) there ∙ f.allowed in
       let draft : sailing p h v slot ≡ Some (loaded s f.most) = ap (option_and_then (λ (r : ShipParts). sailing_draft p h r slot)) there ∙ sails in
       let cargo : value p h v slot ≡ Some (carried s f.most) = ap (option_and_then (λ (r : ShipParts). ship_value p h r slot)) there ∙ carries in
-      let limit : limit_of (record { port = p; tide = h; number = v; ship = s; slot = slot }) ≡ Some l.pass = ap (option_and_then (λ (d : ℤ). limiting_pass p h slot d s.route)) most ∙ l.is in
+      let limit : limit_of (record { port = p; tide = h; number = v; ship = s; slot = slot }) ≡ Some l.limit = ap (option_and_then (λ (r : ShipParts). limiting_passage p h r slot)) there ∙ l.is in
       record {
         draft = loaded s f.most;
         sails = sails;
         most = f.most;
         allowed = a;
-        pass = l.pass;
-        passed = l.passed;
-        limits = l.leaves;
-        enough = keeps_clearance p h slot (loaded s f.most) f.most l.pass l.leaves (loaded_by (is_outgoing s) s.light s.deep f.most f.light);
+        limited = l;
+        enough = limit_keeps p h s slot (loaded s f.most) f.most l (loaded_by (is_outgoing s) s.light s.deep f.most f.light);
         cargo = carried s f.most;
         carries = carries;
         told = fields_same draft most limit cargo;

@@ -3,21 +3,21 @@ use Rattle.std.specs.Prelude.{◌≡◌, ◌↔◌, ◌⊎◌, ℕ, ◌<◌, ◌
 use Rattle.std.specs.Fmt.{signed_decimal}
 use Rattle.csv.specs.Reading.{AreRecords, default_config, strip_bom}
 use Rattle.csv.specs.declared.parser.State.TheVariants as st
-use Rattle.hw_port.specs.declared.parts.Pass.{Pass}
 use Rattle.hw_port.specs.Kept.{IsStart}
 use Rattle.hw_port.specs.Parts.{ShipParts}
 use Rattle.hw_port.specs.Whole.{Parts}
 use Rattle.hw_tide.specs.Levels.{TideParts}
 use Rattle.hw_port_model.specs.Numbers.{whole}
-use Rattle.hw_port_model.specs.Drafts.{draft_at, IsAllowedDraft, sailing_draft, ship_value}
+use Rattle.hw_port_model.specs.Drafts.{IsAllowedDraft, sailing_draft, ship_value}
 use Rattle.hw_port_model.specs.Permitted.{PortPermits, Stays}
 use Rattle.hw_port_model.specs.Timetables.{IsGiven, IsPortTimetable, SailsIn}
+use Rattle.hw_draft.specs.Laws.{IsLimited}
+use Rattle.hw_draft.specs.Passages.{under_keel, waypoint_name}
 use Rattle.hw_port_dates.specs.declared.moment.Moment.{Moment}
 use Rattle.hw_port_dates.specs.Moments.{IsMoment, minutes_of, start_of}
 use Rattle.hw_port_dates.specs.Texts.{moment_text}
 use Rattle.hw_port_csv.specs.Entries.{ShipEntry, entries}
 use Rattle.hw_port_csv.specs.Fields.{tonnes_text}
-use Rattle.hw_port_csv.specs.Passes.{under_keel, passed_waypoint_name}
 use Rattle.hw_port_csv.specs.Sailings.{figure_fields, time_text}
 use Rattle.hw_port_csv.specs.Tables.{course_fields, header, ship_record, whole_table_text}
 
@@ -68,19 +68,17 @@ pub record TimesAreTrue : Type 0 where
 
 -- ---- what is told of a ship
 
--- the sailing draft and the allowed one, a pass that leaves no more than this and its clearance, which is kept, and the cargo: these are in the fields
+-- the sailing draft and the allowed one, the pass that limits this and its clearance, which is kept, and the cargo: these are in the fields
 pub record IsToldOf (p : Parts) (h : TideParts) (s : ShipParts) (slot : ℕ) (fields : List (List ℕ)) : Type 0 where
   pub draft : ℤ
   pub sails : sailing_draft p h s slot ≡ Some draft
   pub most : ℤ
   pub allowed : IsAllowedDraft p h s slot most
-  pub pass : Pass
-  pub passed : Contains s.route pass
-  pub limits : draft_at p h slot pass ≡ most
-  pub enough : pass.clearance ≤ℤ under_keel p h slot draft pass
+  pub limited : IsLimited p h s slot most
+  pub enough : limited.limit.clearance ≤ℤ under_keel limited.limit draft
   pub cargo : ℕ
   pub carries : ship_value p h s slot ≡ Some cargo
-  pub told : fields ≡ decimal slot ∷ time_text p slot ∷ signed_decimal draft ∷ signed_decimal most ∷ passed_waypoint_name p (whole pass.waypoint) ∷ signed_decimal (under_keel p h slot draft pass) ∷ signed_decimal pass.clearance ∷ tonnes_text cargo ∷ []
+  pub told : fields ≡ decimal slot ∷ time_text p slot ∷ signed_decimal draft ∷ signed_decimal most ∷ waypoint_name p limited.limit.waypoint ∷ signed_decimal (under_keel limited.limit draft) ∷ signed_decimal limited.limit.clearance ∷ tonnes_text cargo ∷ []
 
 -- of a timetable that the port permits: of each ship that sails this is told, and nothing of one that stays
 pub record RecordsAreTrue : Type 0 where

@@ -1,6 +1,5 @@
 -- What a table tells of a ship that sails in a slot, in the words of the port's rules.
-use Rattle.std.specs.Prelude.{◌≡◌, ◌<◌, ℕ, ◌+◌, ◌*◌, ℤ, List, [], ◌∷◌, ◌++◌, Option, Some, None, option_and_then, decimal, length}
-use Rattle.hw_port.specs.declared.parts.Pass.{Pass}
+use Rattle.std.specs.Prelude.{◌≡◌, ◌<◌, ℕ, ◌+◌, ◌*◌, ℤ, List, [], ◌∷◌, ◌++◌, Option, Some, None, decimal, length}
 use Rattle.hw_port.specs.declared.parts.Waypoint.{Waypoint}
 use Rattle.hw_port.specs.Kept.{ShipKept}
 use Rattle.hw_port.specs.Parts.{ShipParts}
@@ -8,10 +7,12 @@ use Rattle.hw_port.specs.Whole.{Parts}
 use Rattle.hw_tide.specs.Levels.{TideParts}
 use Rattle.hw_port_model.specs.Numbers.{horizon_of, whole}
 use Rattle.hw_port_model.specs.Drafts.{allowed, sailing, value}
+use Rattle.hw_draft.specs.declared.passage.Passage.{Passage}
+use Rattle.hw_draft.specs.Passages.{limit_name, limiting}
 use Rattle.hw_port_dates.specs.Moments.{moment_after}
 use Rattle.hw_port_dates.specs.Texts.{moment_text}
 use Rattle.hw_port_csv.specs.Fields.{centimetres, tonnes}
-use Rattle.hw_port_csv.specs.Passes.{clearance_of, keel_at, limit_name, limiting_pass, offset_at}
+use Rattle.hw_port_csv.specs.Passes.{clearance_of, keel_at, offset_at}
 
 -- a ship of a port, its number, a slot in which it sails, and the tide
 pub record SailingParts : Type 0 where
@@ -39,13 +40,13 @@ time_text p slot = minutes_text p.start (slot * whole p.slot_minutes)
 
 -- ---- what limits the draft
 
--- the pass that leaves just the allowed draft
-abbrev pub limit_of : SailingParts → Option Pass
-limit_of a = option_and_then (λ draft. limiting_pass a.port a.tide a.slot draft a.ship.route) (allowed a.port a.tide a.number a.slot)
+-- the pass that limits the allowed draft
+abbrev pub limit_of : SailingParts → Option Passage
+limit_of a = limiting a.port a.tide a.number a.slot
 
 -- the water under the keel of the ship there
 abbrev pub keel_of : SailingParts → Option ℤ
-keel_of a = keel_at a.port a.tide a.slot (sailing a.port a.tide a.number a.slot) (limit_of a)
+keel_of a = keel_at (sailing a.port a.tide a.number a.slot) (limit_of a)
 
 -- when a pass is made that comes this many slots after sailing
 abbrev pub pass_text : Parts → ℕ → Option ℕ → List ℕ

@@ -9,9 +9,9 @@ ghost use Rattle.hw_port_csv.specs.Entries.{table_entry};
 ghost use Rattle.hw_port_csv.specs.Tables.{columns_text, course_fields, empty_fields, header, ship_record, ship_text};
 
 use crate::field::{Field, put_comma, put_field, put_fields, put_line_end, put_next};
-use crate::passes::natural;
 use crate::sailing::{Sailing, put_sailing};
 use hw_desk::Writer;
+use hw_draft::natural;
 use hw_model::{ShipId, Slot};
 use hw_port::{Port, Ship, Waypoint};
 use hw_tide::Tide;

@@ -2,19 +2,20 @@
 
 ghost use Rattle.std.specs.Prelude.{◌≡◌, ◌<◌, ◌≤◌, ◌+◌, ◌++◌, codes, decimal, pos, length, IfSome};
 ghost use Rattle.hw_desk.specs.Writers.{Puts};
-ghost use Rattle.hw_port.specs.Kept.{PassKept, PortKept, ShipKept, Within};
+ghost use Rattle.hw_port.specs.Kept.{PortKept, ShipKept, Within};
 ghost use Rattle.hw_port_model.specs.Drafts.{allowed, sailing, value};
+ghost use Rattle.hw_draft.specs.Passages.{PassageKept};
 ghost use Rattle.csv.specs.Writing.{default_writer, field_text, fields_text};
-ghost use Rattle.hw_port_csv.specs.Fields.{field_of};
-ghost use Rattle.hw_port_csv.specs.Passes.{clearance_of, limit_name};
+ghost use Rattle.hw_port_csv.specs.Passes.{clearance_of};
 ghost use Rattle.hw_port_csv.specs.Sailings.{figure_fields, keel_of, limit_of, pass_fields, passed_text, sailing_fields, time_text, water_fields};
 
 use crate::field::{Field, put_fields, put_next};
-use crate::passes::{keel_at, limiting_pass, natural, offset_at, waypoint_name};
+use crate::passes::offset_at;
 use crate::time::{put_pass_time, put_time};
 use hw_desk::Writer;
+use hw_draft::{Passage, limit_name};
 use hw_model::{MOST_SLOTS, ShipId, Slot};
-use hw_port::{Pass, Port, PortParts, Ship, Waypoint};
+use hw_port::{Port, PortParts, Ship, Waypoint};
 use hw_tide::Tide;
 use std::marker::Model;
 
@@ -38,24 +39,12 @@ impl<'p> Model for Sailing<'p> {
     ghost invariant = { λ a. IsSailing (record { port = a.port.now; tide = a.tide.now; number = a.number; ship = a.ship.now; slot = a.slot }) };
 }
 
-/// The name of a pass's waypoint.
-fn limit_name(parts: &PortParts, limit: Option<Pass>) -> Field<'_>
-    requires kept { PortKept parts.now }
-    requires limit { IfSome limit (PassKept (pos (length parts.now.waypoints))) }
-    ensures { field_of result ≡ limit_name parts.now limit }
-{
-    match limit {
-        Some(pass) => Field::Text(waypoint_name(parts, natural(pass.waypoint))),
-        None => Field::Text(b""),
-    }
-}
-
 /// The clearance of a pass.
-fn clearance_of(limit: Option<Pass>) -> Option<i64>
+fn clearance_of(limit: Option<Passage>) -> Option<i64>
     ensures { result ≡ clearance_of limit }
 {
     match limit {
-        Some(pass) => Some(pass.clearance),
+        Some(passage) => Some(passage.clearance),
         None => None,
     }
 }
@@ -111,34 +100,21 @@ impl Sailing<'_> {
         hw_draft::value(self.port, self.tide, self.number, self.slot)
     }
 
-    /// The pass that leaves just the allowed draft.
-    fn limit(&self) -> Option<Pass>
+    /// The pass that limits the draft, or none where that isn't known.
+    fn limit(&self) -> Option<Passage>
         ensures value { result ≡ limit_of self.now }
-        ensures kept { IfSome result (PassKept (pos (length self.now.port.waypoints))) }
+        ensures kept { IfSome result PassageKept }
     {
-        match self.allowed() {
-            Some(draft) => limiting_pass(
-                self.parts(),
-                self.tide,
-                self.slot(),
-                draft,
-                &self.ship().route,
-            ),
-            None => None,
-        }
+        hw_draft::limiting(self.port, self.tide, self.number, self.slot)
     }
 
     /// The water under the keel at that pass.
     fn keel(&self) -> Option<i64>
         ensures { result ≡ keel_of self.now }
     {
-        keel_at(
-            self.parts(),
-            self.tide,
-            self.slot(),
-            self.draft(),
-            self.limit(),
-        )
+        let draft = self.draft()?;
+        let limit = self.limit()?;
+        Some(limit.under_keel(draft))
     }
 }
 
@@ -153,7 +129,7 @@ fn put_water<W: Writer>(out: &mut W, sailing: &Sailing)
         &[
             Field::Centimetres(sailing.draft()),
             Field::Centimetres(sailing.allowed()),
-            limit_name(parts, limit),
+            Field::Text(limit_name(parts, limit)),
             Field::Centimetres(sailing.keel()),
             Field::Centimetres(clearance_of(limit)),
             Field::Tonnes(sailing.cargo()),

@@ -7,9 +7,9 @@ ghost use Rattle.hw_port_model.specs.Numbers.{horizon_of};
 ghost use Rattle.hw_port_csv.specs.Entries.{entries, has_slot};
 ghost use Rattle.hw_port_csv.specs.Tables.{ship_entry_text, records_text, slot_entries_text, slots_text, whole_table_text};
 
-use crate::passes::natural;
 use crate::record::{put_header, put_record};
 use hw_desk::Writer;
+use hw_draft::natural;
 use hw_model::{MOST_SHIPS, MOST_SLOTS, ShipId, Slot};
 use hw_port::{Port, Ship};
 use hw_tide::Tide;

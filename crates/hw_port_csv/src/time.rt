@@ -8,8 +8,8 @@ ghost use Rattle.hw_port_model.specs.Numbers.{whole};
 ghost use Rattle.hw_port_csv.specs.Sailings.{minutes_text, pass_text, time_text};
 
 use crate::field::put_comma;
-use crate::passes::natural;
 use hw_desk::Writer;
+use hw_draft::natural;
 use hw_model::{MOST_SLOTS, Slot};
 use hw_port::{PortParts, Text};
 use hw_port_dates::{moment_after, put_moment};

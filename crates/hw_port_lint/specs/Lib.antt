@@ -1,5 +1,4 @@
 pub mod Lines
-pub mod Numbers
 pub mod Encodings
 pub mod Tables
 pub mod Instances

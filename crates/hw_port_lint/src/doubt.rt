@@ -1,20 +1,10 @@
 //! A member whose value looks like one of another unit.
 
-ghost use Rattle.std.specs.Prelude.{◌≡◌, ◌++◌, ◌≤ℤ◌, OnOk, pos};
-ghost use Rattle.hw_port_lint.specs.Numbers.{whole_amount};
+ghost use Rattle.std.specs.Prelude.{◌≡◌, ◌++◌, OnOk};
 ghost use Rattle.hw_port_lint.specs.Lines.{doubt_line};
 
 use crate::pieces::{Piece, put_pieces};
 use std::alloc::AllocError;
-
-/// A number of a port that is never negative.
-pub fn natural(number: i64) -> u32
-    requires least { pos 0 ≤ℤ number }
-    requires most { number ≤ℤ pos 100_000 }
-    ensures { result ≡ whole_amount number }
-{
-    number.unsigned_abs() as u32
-}
 
 /// A member whose value looks like one of another unit: the list, the number of its item, the member, the value and the unit,
 /// each word with its spaces and points.

@@ -5,8 +5,9 @@ ghost use Rattle.hw_port.specs.Kept.{PortKept, WaypointKept, Within};
 ghost use Rattle.hw_port_lint.specs.Ports.{depth_hint, depth_hints, lint_text, or_clean, port_hints};
 
 use crate::clock::put_clock;
-use crate::doubt::{Doubt, natural, put_doubt};
+use crate::doubt::{Doubt, put_doubt};
 use crate::ships::put_ships;
+use hw_draft::natural;
 use hw_model::NoMemory;
 use hw_port::{Port, Waypoint};
 use std::alloc::{AllocError, Global};

@@ -1,14 +1,16 @@
 //! What is likely meant otherwise of a port's ships.
 
 ghost use Rattle.std.specs.Prelude.{◌≡◌, ◌+◌, ◌++◌, ◌≤◌, All, OnOk, length, pos};
-ghost use Rattle.hw_port.specs.Kept.{PassKept, PortKept, ShipKept, Within};
+ghost use Rattle.hw_port.specs.Kept.{PortKept, ShipKept, Within};
+ghost use Rattle.hw_draft.specs.LastPasses.{last_pass};
 ghost use Rattle.hw_port_lint.specs.Lines.{short_line};
-ghost use Rattle.hw_port_lint.specs.Ships.{draft_hint, is_long, job_hint, last_offset, late_by, late_hint, load_hint, last_height_needed, ship_hints, ship_member, ship_hints_from, short_hint};
+ghost use Rattle.hw_port_lint.specs.Ships.{draft_hint, is_long, job_hint, late_by, late_hint, load_hint, last_height_needed, ship_hints, ship_member, ship_hints_from, short_hint};
 
-use crate::doubt::{Doubt, natural, put_doubt};
+use crate::doubt::{Doubt, put_doubt};
 use crate::pieces::{Piece, put_pieces};
+use hw_draft::{LastPass, judging_slot, last_pass, natural};
 use hw_model::MOST_SHIPS;
-use hw_port::{Pass, PortParts, Ship};
+use hw_port::{PortParts, Ship};
 use std::alloc::AllocError;
 
 /// Appends the line of a member of a ship.
@@ -87,29 +89,14 @@ fn put_job(out: &mut Vec<u8>, parts: &PortParts, number: u32, ship: &Ship) -> Re
     Ok(())
 }
 
-/// How many slots after a ship's own its last pass is made.
-fn last_offset(waypoints: usize, route: &[Pass]) -> u32
-    requires few { waypoints ≤ 16 }
-    requires route { All (PassKept (pos waypoints)) route.now }
-    ensures value { result ≡ last_offset route.now }
-    ensures few { result ≤ 1_023 }
-{
-    let [pass, more @ ..] = route else {
-        return 0;
-    };
-    let last = last_offset(waypoints, more);
-    let offset = natural(pass.offset);
-    if last < offset { offset } else { last }
-}
-
-/// How many slots after its own a ship makes its last pass.
-fn last_of(parts: &PortParts, ship: &Ship) -> u32
+/// The last pass of a ship.
+fn last_of(parts: &PortParts, ship: &Ship) -> LastPass
     requires port { PortKept parts.now }
     requires ship { ShipKept parts.now ship.now }
-    ensures value { result ≡ last_offset ship.now.route }
-    ensures few { result ≤ 1_023 }
+    ensures value { result ≡ last_pass ship.now.route }
+    ensures few { result.offset ≤ 1_023 }
 {
-    last_offset(parts.waypoints.len(), &ship.route)
+    last_pass(parts.waypoints.len(), &ship.route)
 }
 
 /// Appends the line of a ship whose last pass, counted in slots after its own, looks as if it were in minutes.
@@ -141,7 +128,7 @@ fn put_late(
     requires ship { ShipKept parts.now ship.now }
     ensures { OnOk result (out.new.items ≡ out.old.items ++ late_hint parts.now number ship.now) }
 {
-    put_last(out, parts, number, ship, last_of(parts, ship))
+    put_last(out, parts, number, ship, last_of(parts, ship).offset)
 }
 
 /// The last slot whose height a ship needs that sails in its latest slot.
@@ -150,8 +137,7 @@ fn needed(parts: &PortParts, ship: &Ship) -> u32
     requires ship { ShipKept parts.now ship.now }
     ensures { result ≡ last_height_needed parts.now ship.now }
 {
-    let passed = natural(ship.latest) + last_of(parts, ship);
-    if parts.is_least() { passed + 1 } else { passed }
+    judging_slot(parts, natural(ship.latest), last_of(parts, ship))
 }
 
 /// Appends the line of a ship for which the tide table is too short.

@@ -1,5 +1,5 @@
 -- What a status says of a slot.
-use Rattle.std.proofs.Common.{◌≡◌, ◌⊎◌, ◌↔◌, ◌≤◌, ◌&&◌, ◌||◌, not, ◌∙◌, ℕ, ℤ, int_lt, Bool, true, false, cond, length, Option, Some, None, IsSome, IsTrue, option_map, option_and_then, slice_get, refl, sym, ap, subst, inl, inr, arith}
+use Rattle.std.proofs.Common.{◌≡◌, ◌↔◌, ◌≤◌, ◌&&◌, ◌||◌, not, ℕ, ℤ, int_lt, Bool, true, false, cond, length, Option, Some, None, IsSome, IsTrue, option_map, option_and_then, slice_get, refl, sym, ap, subst, arith}
 use Rattle.std.specs.Option.{option_map_or}
 use Rattle.std.proofs.lemmas.Bool.{and_from}
 use Rattle.std.proofs.lemmas.Int.{ints}
@@ -9,11 +9,12 @@ use Rattle.hw_tide.specs.Levels.{TideParts}
 use Rattle.hw_port_laws.proofs.Drafts.{least_draft_law}
 use Rattle.hw_port_model.specs.Closed.{is_open}
 use Rattle.hw_port_model.specs.Drafts.{allowed, allowed_draft, carried, floating, in_window, loaded, may_sail, sailing_draft, usable_draft}
+use Rattle.hw_draft.proofs.Limits.{limits_law}
 use Rattle.hw_port_windows.specs.Closings.{closed_for, closed_in, some_pass_closed}
 use Rattle.hw_port_windows.specs.Statuses.{reason_by, sails, status_by, status_in}
 use Rattle.hw_port_windows.specs.Laws.{IsTooShallow, IsTrueOf, ReasonTrue, ValueExactlyOutside}
 use Rattle.hw_port_windows.proofs.WhyClosed.{why_closed}
-use Rattle.hw_port_windows.proofs.Routes.{ends_before, limited}
+use Rattle.hw_port_windows.proofs.Routes.{ends_before}
 
 -- ---- a value, or none
 
@@ -47,7 +48,7 @@ module _ (p : Parts) (h : TideParts) (s : ShipParts) (slot : ℕ) where
       record {
         allowed = a;
         less = grind (arith, ints, lt);
-        limited = limited p h slot s.route draft a.met;
+        limited = limits_law p h s slot draft a;
       }
 
   floats_by : (b : Bool) (draft : ℤ) → int_lt draft s.light ≡ b → allowed_draft p h s slot ≡ Some draft → option_map (loaded s) (cond b None (Some draft)) ≡ None → IsTooShallow p h s slot draft

@@ -17,7 +17,7 @@ use Rattle.hw_port_windows.specs.declared.status.Status.TheVariants.{Sails, Clos
 use Rattle.hw_port_windows.specs.Statuses.{statuses_alike, draft_of, is_closed_status, is_shallow, sails, tides_end}
 use Rattle.hw_port_windows.specs.Closings.{IsClosedFor}
 use Rattle.hw_port_windows.specs.Runs.{deepest_in}
-use Rattle.hw_port_windows.specs.Passes.{last_pass, judging_slot}
+use Rattle.hw_draft.specs.LastPasses.{last_pass, judging_slot}
 use Rattle.hw_port_windows.specs.Windows.{AskedParts, drafts, greatest_draft, least_draft, span_of, statuses}
 use Rattle.hw_port_windows.specs.Laws.{IsLongest, RunTells, IsTooShallow, IsTrueOf, IsWithin, LinesAreTrue, SpanIsWindow}
 use Rattle.hw_port_windows.proofs.Extremes.{extremes_law}

@@ -1,11 +1,10 @@
 -- What closes a slot for a ship.
-use Rattle.std.proofs.Common.{◌≡◌, ◌<◌, ◌+◌, ◌&&◌, ◌||◌, not, ℕ, zero, suc, ℤ, pos, int_le, Bool, true, false, List, [], ◌∷◌, length, get_or, Contains, refl, inl, inr, arith}
+use Rattle.std.proofs.Common.{◌≡◌, ◌||◌, not, ℕ, suc, pos, int_le, Bool, true, false, List, [], ◌∷◌, Contains, refl, inl, inr, arith}
 use Rattle.std.specs.List.{list_any}
 use Rattle.std.proofs.lemmas.Bool.{and_parts}
 use Rattle.hw_lemmas.proofs.Truths.{was_not, either}
 use Rattle.hw_port.proofs.Keeping.{le_from_test}
 use Rattle.hw_port.specs.declared.parts.Closing.{Closing}
-use Rattle.hw_port.specs.declared.parts.Pass.{Pass}
 use Rattle.hw_port.specs.Parts.{ShipParts}
 use Rattle.hw_port.specs.Whole.{Parts}
 use Rattle.hw_port_model.specs.Closed.{closed_at, closes, is_open}

@@ -1,5 +1,5 @@
 -- What is closed for a ship in a slot: the port, the ship, or a waypoint of its route when it is passed.
-use Rattle.std.specs.Prelude.{ℕ, ℤ, pos, ◌≤ℤ◌, ◌⊎◌, Bool, not, ◌||◌, false, List, Contains, slice_get}
+use Rattle.std.specs.Prelude.{ℕ, pos, ◌≤ℤ◌, ◌⊎◌, Bool, not, ◌||◌, false, List, Contains, slice_get}
 use Rattle.std.specs.List.{list_any}
 use Rattle.std.specs.Option.{option_map_or}
 use Rattle.hw_port.specs.declared.parts.Closing.{Closing}

@@ -1,21 +1,19 @@
 -- What the report says, in the words of the port's rules.
-use Rattle.std.specs.Prelude.{◌≡◌, ◌↔◌, ℕ, ◌+◌, ◌<◌, ◌≤◌, ℤ, ◌≤ℤ◌, ◌<ℤ◌, List, [], ◌∷◌, length, All, Contains, Some, IsSome, IsTrue, slice_get}
-use Rattle.hw_port.specs.declared.parts.Pass.{Pass}
+use Rattle.std.specs.Prelude.{◌≡◌, ◌↔◌, ℕ, ◌+◌, ◌<◌, ◌≤◌, ℤ, ◌≤ℤ◌, ◌<ℤ◌, List, [], ◌∷◌, length, Some, IsSome, IsTrue, slice_get}
 use Rattle.hw_port.specs.Kept.{ShipKept}
 use Rattle.hw_port.specs.Parts.{ShipParts}
 use Rattle.hw_port.specs.Whole.{Parts}
 use Rattle.hw_tide.specs.Levels.{TideParts}
-use Rattle.hw_port_model.specs.Numbers.{whole}
-use Rattle.hw_port_model.specs.Drafts.{draft_at, in_window, IsAllowedDraft, sailing_draft, value}
+use Rattle.hw_port_model.specs.Drafts.{in_window, IsAllowedDraft, sailing_draft, value}
+use Rattle.hw_draft.specs.Laws.{IsLimited}
+use Rattle.hw_draft.specs.LastPasses.{judging_slot, last_pass}
 use Rattle.hw_port_windows.specs.declared.status.Status.{Status}
 use Rattle.hw_port_windows.specs.declared.status.Status.TheVariants.{Sails, Closed, Shallow, TidesEnd}
-use Rattle.hw_port_windows.specs.declared.passes.LastPass.{LastPass}
 use Rattle.hw_port_windows.specs.declared.run.Run.{Run}
 use Rattle.hw_port_windows.specs.Closings.{IsClosedFor}
 use Rattle.hw_port_windows.specs.Statuses.{statuses_alike, sails, status_in}
 use Rattle.hw_port_windows.specs.Runs.{deepest_in, lightest_in, runs_within}
 use Rattle.hw_port_windows.specs.Windows.{AskedParts, greatest_draft, least_draft, span_of, statuses}
-use Rattle.hw_port_windows.specs.Passes.{last_pass, limiting, made_at, judging_slot}
 
 -- a run that begins in this slot and ends before another one: its slots are of one kind, and the slot after it is of another
 pub record IsLongest (status : ℕ → Status) (from end : ℕ) (run : Run) : Type 0 where
@@ -34,11 +32,11 @@ FollowOn status from end (run ∷ more) = IsLongest status from end run × Follo
 abbrev pub RunsAreLongest : Type 0
 RunsAreLongest = (status : ℕ → Status) (span : Run) → span.first ≤ span.last → FollowOn status span.first (span.last + 1) (runs_within status span)
 
--- in this slot the water allows this draft, less than the light one, and a pass at that waypoint leaves no more
+-- in this slot the water allows this draft, less than the light one, and the pass that limits it leaves no more
 pub record IsTooShallow (p : Parts) (h : TideParts) (s : ShipParts) (slot : ℕ) (draft : ℤ) : Type 0 where
   pub allowed : IsAllowedDraft p h s slot draft
   pub less : draft <ℤ s.light
-  pub limited : (pass : Pass) × Contains s.route pass × (draft_at p h slot pass ≡ draft) × (whole pass.waypoint ≡ limiting p h slot draft s.route)
+  pub limited : IsLimited p h s slot draft
 
 -- what a status says of a slot
 abbrev pub IsTrueOf : Parts → TideParts → ShipParts → ℕ → Status → Type 0
@@ -69,14 +67,6 @@ pub record AreExtremes (draft : ℕ → ℤ) (run : Run) : Type 0 where
 
 abbrev pub DraftsAreExtremes : Type 0
 DraftsAreExtremes = (draft : ℕ → ℤ) (run : Run) → run.first ≤ run.last → AreExtremes draft run
-
--- no pass of a route comes after the last one, which is one of them
-pub record IsLast (route : List Pass) (last : LastPass) : Type 0 where
-  pub among : (pass : Pass) × Contains route pass × (made_at pass ≡ last)
-  pub latest : All (λ pass. whole pass.offset ≤ last.offset) route
-
-abbrev pub LastPassIsLast : Type 0
-LastPassIsLast = (route : List Pass) → 1 ≤ length route → IsLast route (last_pass route)
 
 -- the slots for which a ship asks are those from its earliest to its latest
 abbrev pub SpanIsWindow : Type 0

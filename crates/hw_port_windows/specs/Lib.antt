@@ -1,7 +1,6 @@
 pub mod Closings
 pub mod Statuses
 pub mod Runs
-pub mod Passes
 pub mod Lines
 pub mod Windows
 pub mod Laws

@@ -1,14 +1,15 @@
 -- A small port, worked out by hand: a ship that goes out over a bar, and one that comes in over it.
-use Rattle.std.specs.Prelude.{◌≡◌, ℕ, pos, negsuc, ℤ, List, [], ◌∷◌, None, false, codes, slice_index_or}
+use Rattle.std.specs.Prelude.{◌≡◌, ℕ, pos, negsuc, ℤ, List, [], ◌∷◌, None, Some, option_map, false, codes, slice_index_or}
 use Rattle.hw_port.specs.declared.parts.Closing.{Closing}
 use Rattle.hw_port.specs.Parts.{ShipParts}
 use Rattle.hw_port.specs.Whole.{Parts}
 use Rattle.hw_tide.specs.Levels.{TideParts}
+use Rattle.hw_draft.specs.LastPasses.{last_pass}
+use Rattle.hw_draft.specs.Passages.{limiting}
 use Rattle.hw_port_windows.specs.declared.status.Status.{Status}
 use Rattle.hw_port_windows.specs.declared.status.Status.TheVariants.{Sails, Closed, Shallow, TidesEnd}
 use Rattle.hw_port_windows.specs.Statuses.{status_in}
 use Rattle.hw_port_windows.specs.Runs.{deepest, lightest, runs}
-use Rattle.hw_port_windows.specs.Passes.{last_pass, limiting}
 use Rattle.hw_port_windows.specs.Lines.{shallow_line}
 use Rattle.hw_port_windows.specs.Windows.{ship_windows_text, windows_text}
 
@@ -117,7 +118,7 @@ pub record WindowRows : Type 0 where
   pub least : lightest heights 0 4 ≡ 2
   pub of_the_last_two : lightest heights 3 1 ≡ 4
   -- passes
-  pub bar_limits : limiting (window_example_port (pos 1_150)) tide 4 (pos 1_040) ((ada (pos 1_150)).route) ≡ 1
+  pub bar_limits : option_map (λ m. m.waypoint) (limiting (window_example_port (pos 1_150)) tide 0 4) ≡ Some 1
   pub berth_is_last : last_pass gull.route ≡ record { waypoint = 0; offset = 2 }
   -- a draft below 0
   pub aground : shallow_line (record { first = 3; last = 5 }) (pos 900) (negsuc 9) (codes "Mud") ≡ codes "shallow 3 5 needs 900 at most -10 Mud\n"

@@ -1,18 +1,19 @@
 -- The report of when each ship of a port may sail, and why not.
-use Rattle.std.specs.Prelude.{◌≡◌, ◌<◌, ℕ, ◌+◌, ℤ, List, [], ◌∷◌, ◌++◌, codes, length, slice_get}
-use Rattle.std.specs.Option.{option_map_or}
+use Rattle.std.specs.Prelude.{◌≡◌, ◌<◌, ℕ, ◌+◌, ℤ, List, [], ◌∷◌, ◌++◌, Option, codes, length}
 use Rattle.std.specs.Ordering.{int_eq}
 use Rattle.hw_port.specs.Kept.{ShipKept}
 use Rattle.hw_port.specs.Parts.{ShipParts}
 use Rattle.hw_port.specs.Whole.{Parts}
 use Rattle.hw_tide.specs.Levels.{TideParts}
 use Rattle.hw_port_model.specs.Numbers.{whole}
+use Rattle.hw_draft.specs.LastPasses.{judging_slot, last_pass}
+use Rattle.hw_draft.specs.Passages.{limit_name, limiting, waypoint_name}
+use Rattle.hw_draft.specs.declared.passage.Passage.{Passage}
 use Rattle.hw_port_windows.specs.declared.status.Status.{Status}
 use Rattle.hw_port_windows.specs.declared.status.Status.TheVariants.{Sails, Closed, Shallow, TidesEnd}
 use Rattle.hw_port_windows.specs.declared.run.Run.{Run}
 use Rattle.hw_port_windows.specs.Statuses.{status_draft, full_draft, status_in}
 use Rattle.hw_port_windows.specs.Runs.{deepest_in, lightest_in, runs_within}
-use Rattle.hw_port_windows.specs.Passes.{last_pass, limiting, judging_slot}
 use Rattle.hw_port_windows.specs.Lines.{closed_line, sails_line, shallow_line, window_ship_line, tides_line}
 
 -- a ship of a port, its number, and the tide: of this it is asked when it may sail
@@ -42,13 +43,9 @@ least_draft a run = drafts a (lightest_in (drafts a) run)
 abbrev pub greatest_draft : AskedParts → Run → ℤ
 greatest_draft a run = drafts a (deepest_in (drafts a) run)
 
--- the name of a waypoint
-abbrev pub waypoint_name : Parts → ℕ → List ℕ
-waypoint_name p place = option_map_or (λ w. w.name) (slice_get p.waypoints place) []
-
--- where the water is shallowest in the slot of a run in which it allows the most
-abbrev pub shallowest : AskedParts → Run → ℕ
-shallowest a run = limiting a.port a.tide (deepest_in (drafts a) run) (greatest_draft a run) a.ship.route
+-- the pass that limits the draft in the slot of a run in which the water allows the most
+abbrev pub shallowest : AskedParts → Run → Option Passage
+shallowest a run = limiting a.port a.tide a.number (deepest_in (drafts a) run)
 
 -- a run in which the ship may sail: whether it does so with its full draft, somewhere in the run
 abbrev pub sails_in : AskedParts → Run → List ℕ
@@ -56,7 +53,7 @@ sails_in a run = sails_line run (whole a.port.slot_minutes) (least_draft a run) 
 
 -- a run in which the water is too shallow for it
 abbrev pub shallow_in : AskedParts → Run → List ℕ
-shallow_in a run = shallow_line run a.ship.light (greatest_draft a run) (waypoint_name a.port (shallowest a run))
+shallow_in a run = shallow_line run a.ship.light (greatest_draft a run) (limit_name a.port (shallowest a run))
 
 -- a run in which it makes a pass after the end of the tide table
 abbrev pub ended_in : AskedParts → Run → List ℕ

@@ -4,13 +4,14 @@ ghost use Rattle.std.specs.Prelude.{◌≡◌, ◌<◌, ◌≤◌, ◌+◌, leng
 ghost use Rattle.std.specs.Ordering.{int_eq};
 ghost use Rattle.hw_port.specs.Kept.{PortKept, ShipKept};
 ghost use Rattle.hw_port_model.specs.Numbers.{horizon_of, whole};
+ghost use Rattle.hw_draft.specs.Passages.{limiting};
 ghost use Rattle.hw_port_windows.specs.Statuses.{statuses_alike, full_draft, reason_in};
 ghost use Rattle.hw_port_windows.specs.Windows.{drafts, span_of, statuses};
 
 use crate::closings::is_closed_in;
-use crate::passes::natural;
 use crate::run::Run;
 use crate::status::Status;
+use hw_draft::{Passage, natural};
 use hw_model::{ShipId, Slot};
 use hw_port::{Port, PortParts, Ship};
 use hw_tide::Tide;
@@ -107,6 +108,14 @@ impl Asked<'_> {
         ensures { result ≡ drafts self.now slot }
     {
         self.status(slot).draft()
+    }
+
+    /// The pass that limits the draft of the ship in a slot, where its draft is known.
+    pub fn limit(&self, slot: Slot) -> Option<Passage>
+        requires { slot < horizon_of self.now.port }
+        ensures { result ≡ limiting self.now.port self.now.tide self.now.number slot }
+    {
+        hw_draft::limiting(self.port, self.tide, self.number, slot)
     }
 
     /// Whether the ship fares in the next slot as it does in this one.

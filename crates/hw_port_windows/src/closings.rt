@@ -5,7 +5,7 @@ ghost use Rattle.hw_port.specs.Kept.{PassKept, PortKept, ShipKept};
 ghost use Rattle.hw_port_model.specs.Drafts.{is_passable};
 ghost use Rattle.hw_port_windows.specs.Closings.{closed_for, closed_in, some_pass_closed};
 
-use crate::passes::natural;
+use hw_draft::natural;
 use hw_model::{MOST_SLOTS, ShipId, Slot};
 use hw_port::{Pass, PortParts, Ship};
 use hw_port_model::is_open;

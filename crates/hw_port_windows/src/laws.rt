@@ -1,6 +1,6 @@
 //! What the report says.
 
-ghost use Rattle.hw_port_windows.specs.Laws.{DraftsAreExtremes, LastPassIsLast, LinesAreTrue, ReasonTrue, RunsAreLongest, SpanIsWindow, ValueExactlyOutside};
+ghost use Rattle.hw_port_windows.specs.Laws.{DraftsAreExtremes, LinesAreTrue, ReasonTrue, RunsAreLongest, SpanIsWindow, ValueExactlyOutside};
 ghost use Rattle.hw_port_windows.specs.Rows.{WindowRows};
 
 /// The runs follow one another from the first slot to the last one. The slots of each are of one kind, and the slot after it
@@ -24,11 +24,6 @@ pub fn value_exactly_outside()
 /// The least and the greatest draft of a run are drafts of its slots, and bound the draft of each.
 pub fn drafts_are_extremes()
     ensures { DraftsAreExtremes }
-{}
-
-/// No pass of a route is made after its last one, which is one of them.
-pub fn last_pass_is_last()
-    ensures { LastPassIsLast }
 {}
 
 /// The slots of which a ship's lines tell are those from its earliest to its latest.

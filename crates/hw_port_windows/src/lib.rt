@@ -8,7 +8,6 @@ mod asked;
 mod closings;
 mod laws;
 mod lines;
-mod passes;
 mod piece;
 mod run;
 mod status;
@@ -16,7 +15,7 @@ mod windows;
 
 pub use closings::is_closed_in;
 pub use laws::{
-    drafts_are_extremes, last_pass_is_last, lines_are_true, reason_true, runs_are_longest,
-    span_is_window, value_exactly_outside, window_rows,
+    drafts_are_extremes, lines_are_true, reason_true, runs_are_longest, span_is_window,
+    value_exactly_outside, window_rows,
 };
 pub use windows::put_windows;

@@ -12,10 +12,10 @@ use crate::asked::Asked;
 use crate::lines::{
     put_closed_line, put_sails_line, put_shallow_line, put_ship_line, put_tides_line,
 };
-use crate::passes::{last_pass, limiting, needed, waypoint_name};
 use crate::run::{Run, extremes_in, first_run};
 use crate::status::Status;
 use hw_desk::Writer;
+use hw_draft::{judging_slot, last_pass, limit_name, waypoint_name};
 use hw_model::{MOST_SHIPS, ShipId};
 use hw_port::{Port, Ship};
 use hw_tide::Tide;
@@ -40,12 +40,10 @@ fn put_shallow<W: Writer>(out: &mut W, asked: &Asked, run: Run)
     requires inside { run.last < horizon_of asked.now.port }
     ensures { Puts (shallow_in asked.now run) (W.state out.old) (W.state out.new) }
 {
-    let parts = asked.parts();
-    let ship = asked.ship();
     let slot = extremes_in(asked, run).deep;
     let at_most = asked.draft(slot);
-    let place = limiting(parts, asked.tide(), slot, at_most, &ship.route);
-    put_shallow_line(out, run, ship.light, at_most, waypoint_name(parts, place));
+    let place = limit_name(asked.parts(), asked.limit(slot));
+    put_shallow_line(out, run, asked.ship().light, at_most, place);
 }
 
 /// Puts a run in which a ship makes a pass whose height isn't in the tide table.
@@ -55,7 +53,7 @@ fn put_ended<W: Writer>(out: &mut W, asked: &Asked, run: Run)
 {
     let parts = asked.parts();
     let last = last_pass(parts.waypoints.len(), &asked.ship().route);
-    let needed = needed(parts, run.last, last);
+    let needed = judging_slot(parts, run.last, last);
     put_tides_line(out, run, needed, waypoint_name(parts, last.waypoint));
 }
 

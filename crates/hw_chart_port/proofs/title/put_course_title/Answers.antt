@@ -7,7 +7,7 @@ pub returns-in-Sails : goal.returns-in-Sails
 unfolding time_title load_title
 returns-in-Sails g c =
     let says = sym c.course.ensures.value ∙ c.in-Sails.is in
-    let sailing = c.sailing_of-sailing.ensures.value in
+    let sailing = c.sailing_of-sailing.ensures in
     let way = rw c.by_direction.ensures at c.put-in-Sails.ensures.puts in
     let time = rw (c.from.ensures, sailing) at c.put_pieces.ensures in
     let load = rw (c.from-in-Sails.ensures, c.waypoint-by.ensures, sailing) at c.put_pieces-in-Sails.ensures in

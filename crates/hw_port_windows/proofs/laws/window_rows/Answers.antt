@@ -1,11 +1,11 @@
 use Rattle.std.proofs.Common.{refl}
 use Rattle.std.specs.Fmt.{digits}
-use Rattle.hw_port_windows.specs.Passes.{leaves_just}
+use Rattle.hw_draft.specs.Passages.{leaves_just, passage_of}
 use Rattle.hw_port_windows.specs.Lines.{closed_line, sails_line, shallow_line, window_ship_line, tides_line}
 use Rattle.hw_port_windows.proofs.laws.window_rows.Goals as goal
 
 pub returns : goal.returns
-unfolding digits leaves_just closed_line sails_line shallow_line window_ship_line tides_line
+unfolding digits leaves_just passage_of closed_line sails_line shallow_line window_ship_line tides_line
 returns c = record {
   first_slot = refl;
   full = refl;
