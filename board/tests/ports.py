@@ -70,3 +70,15 @@ def tw(capfd: pytest.CaptureFixture[str], monkeypatch: pytest.MonkeyPatch, tmp_p
         return Done(status, out, err)
 
     return done
+
+
+def busy(folder: str, ships: int = 16, fleet: int = 5) -> str:
+    """The same port on a day on which many ships want the same water."""
+    calls(folder)
+    changed(folder, "port.json", '"fleet":9', f'"fleet":{fleet}')
+    rows = ["name,direction,class,earliest,latest,tpc,light,deep,route,tugs,job"]
+    rows += [f"Ship {place:02},outgoing,{('cape', 'panamax')[place % 2]},,,{900 + 37 * (place % 7)},1100,{1650 + 9 * (place % 8)},out,{2 + place % 2},4"
+             for place in range(ships)]
+    with open(os.path.join(folder, "ships.csv"), "w", encoding="utf-8") as file:
+        file.write("\n".join(rows) + "\n")
+    return folder

@@ -212,6 +212,7 @@ def test_who_did_what(day: Day) -> None:
     assert [tuple(deed) for deed in deeds] == [("somebody", "made it plan 1: day"), ("Änne </b>", "told: Ibis sailed at 00:00"),
                                                ("Änne </b>", "kept plan 1, and not its repair")]
     page = day.client.get("/day/1/underway").data.decode()
+    assert "UTC, somebody</span>" in page
     assert "Änne &lt;/b&gt;" in page and "Änne </b>" not in page
     for sql in ("UPDATE deed SET who = 'x'", "DELETE FROM deed"):
         with pytest.raises(Exception, match="stays"), day.store.change() as db:

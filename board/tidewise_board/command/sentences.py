@@ -12,7 +12,7 @@ from collections.abc import Callable
 from dataclasses import replace
 
 from ..core.happened import Closed, Event, NotBefore, Sailed, Stays, Surveyed, TugsBack, TugsOut
-from ..library.dates import written
+from ..library.dates import DAY, written
 from ..library.faults import Refused
 from ..library.folder import Folder, one_of
 
@@ -104,8 +104,11 @@ class Reader:
         return count
 
     def not_before(self, found: re.Match[str]) -> Event:
-        ship = self.ship(found)
-        return NotBefore(ship, self.minute(found["first"], self.planned.get(ship, 0)))
+        """The first time from that on for which she was planned; where that is past the day, the last one in it."""
+        ship, clock = self.ship(found), self.folder.clock
+        minute = self.minute(found["first"], self.planned.get(ship, 0))
+        earlier = self.minute(found["first"], clock.end - DAY)
+        return NotBefore(ship, minute if minute < clock.end or not 0 <= earlier < clock.end else earlier)
 
     def sailed(self, found: re.Match[str]) -> Event:
         """The time nearest to that for which she was planned."""

@@ -20,9 +20,13 @@ from .progress import Follower, whole_lines
 from .reading import Flat, Unread, Verdict, flat_of, timetable_of, verdict_of
 from .store import Damaged, Store
 
+# A file in the folder of a run that has several processes: the number of each, and when it began.
+PIDS = "pids"
 # How often a certificate is looked at, in seconds, and how long the second checker may take.
 BEAT = 0.1
 SECOND_PATIENCE = 600
+# Seconds that a process has to end by itself once it was asked to.
+GRACE = 5.0
 BUDGETS = range(1, 100001)
 # The state of a run that ended by itself, was stopped, or ended with the board.
 ENDED = ("done", "stopped", "interrupted", "failed")
@@ -66,6 +70,24 @@ def start_of(pid: int) -> str | None:
         return None
 
 
+def noted_pids(folder: str | None) -> list[tuple[int, str]]:
+    """The processes that are put down in the folder of a run."""
+    try:
+        with open(os.path.join(folder or "", PIDS), encoding="ascii", errors="replace") as file:
+            lines = [line.split() for line in file]
+    except OSError:
+        return []
+    return [(int(line[0]), line[1]) for line in lines if len(line) == 2 and line[0].isdigit()]
+
+
+def end(process: subprocess.Popen[bytes], asked: float) -> None:
+    """Asks a process to end, and after a while ends it; `asked` is when that began."""
+    if time.monotonic() - asked < GRACE:
+        process.terminate()
+    else:
+        process.kill()
+
+
 class Runs:
     """Begins, follows and ends runs; a few at once. `second` says whether the second checker follows each of them. Who only reads what is
     kept isn't the `own`er of what runs, and takes nothing up."""
@@ -91,10 +113,11 @@ class Runs:
     def _take_up(self) -> None:
         """What was under way when the board ended: what was written is kept and verified."""
         for run in self.store.rows("SELECT * FROM run WHERE state IN ('waiting', 'running')"):
-            if run["pid"] and run["pid_start"] and start_of(run["pid"]) == run["pid_start"]:
-                os.kill(run["pid"], signal.SIGTERM)
-                while start_of(run["pid"]) == run["pid_start"]:
-                    time.sleep(0.05)
+            for pid, began in [(run["pid"], run["pid_start"]), *noted_pids(run["folder"])]:
+                if pid and began and start_of(pid) == began:
+                    os.kill(pid, signal.SIGTERM)
+                    while start_of(pid) == began:
+                        time.sleep(0.05)
             try:
                 self._close(run["id"], "interrupted", json.loads(run["series"]))
             except (Failed, Unread, Damaged, OSError) as fault:
@@ -119,6 +142,19 @@ class Runs:
             inputs.plan, json.dumps(pins or {}), budget, self.program.digest)
         (self.whatifs if kind == "whatif" else self.pool).submit(self._work, number)
         return number
+
+    def begin_by_hand(self, day: int, inputs: Inputs, label: str, budget: int, input_id: int | None) -> tuple[int, str]:
+        """A row and a folder for a search that somebody else makes there; `end_by_hand` then keeps its `proof` and its `report`."""
+        number = self.store.insert(
+            "INSERT INTO run(day, input, kind, label, instance, tides, budget, program, state, began) VALUES (?, ?, 'plan', ?, ?, ?, ?, ?, 'running', ?)",
+            day, input_id, label, inputs.instance, inputs.tides, budget, self.program.digest, time.time())
+        folder = tempfile.mkdtemp(prefix=f"run-{number}-", dir=self.store.folder)
+        self._set(number, folder=folder)
+        return number, folder
+
+    def end_by_hand(self, number: int, done: bool) -> None:
+        """Keeps what such a search left, after `verify`; `done` says whether it ended by itself."""
+        self._close(number, "done" if done else "stopped", [])
 
     def begin_seeded(self, first: sqlite3.Row, seed: int) -> int:
         """Begins the search of a run again by another seed, as one of its race."""
@@ -163,9 +199,11 @@ class Runs:
             process = self.program.start(self.words_of(run), folder)
             self._set(number, state="running", folder=folder, pid=process.pid, pid_start=start_of(process.pid), began=time.time())
             self.followers[number] = follower
+        asked = None
         while process.poll() is None:
             if number in self.asked or self.ending:
-                process.terminate()
+                asked = asked or time.monotonic()
+                end(process, asked)
             follower.look()
             try:
                 process.wait(BEAT)
@@ -187,8 +225,9 @@ class Runs:
                 if state != "done":
                     whole_lines(proof)
                 cert = self.store.put_file(proof)
-            with open(os.path.join(folder, "report"), "rb") as file:
-                report = self.store.put(file.read())
+            if os.path.exists(os.path.join(folder, "report")):
+                with open(os.path.join(folder, "report"), "rb") as file:
+                    report = self.store.put(file.read())
         if cert is not None:
             try:
                 said = verify(self.program, inputs_of(run), cert, True)

@@ -13,7 +13,7 @@ from .day import day_of
 from .names import noted, who
 from ..core import plans
 from ..core.changes import changes, signed
-from ..core.deeds import deeds_of
+from ..core.deeds import deeds_of, makers_of
 from ..core.facts import port_of
 from ..core.happened import event_of, kept_of
 from ..core.shown import shown, table_of
@@ -57,7 +57,9 @@ def underway(number: int) -> str:
     here = board()
     rows = plans.plans_of(here.store, number)
     port = port_of(here.program, plans.own_inputs(here.store, here.runs.get(rows[-1]["run"])).instance) if rows else None
-    return render_template("underway.html", day=day_of(number), plans=[{"plan": plan, "run": shown(here.runs, plan["run"])} for plan in rows], port=port, page="underway",
+    makers = makers_of(here.store, number)
+    shown_plans = [{"plan": plan, "run": shown(here.runs, plan["run"]), "maker": makers.get(plan["number"], "")} for plan in rows]
+    return render_template("underway.html", day=day_of(number), plans=shown_plans, port=port, page="underway",
                            deeds=deeds_of(here.store, number), clock=[port.clock(slot) for slot in range(port.slots + 1)] if port else [])
 
 
