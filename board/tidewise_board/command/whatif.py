@@ -17,7 +17,7 @@ from ..library.port import text_of
 from ..library.trying import __doc__ as changes
 from ..library.trying import changes_of
 from ..library.whatif import processors
-from .common import Place, asking_options, place_of, say, say_json, say_rows, terminal
+from .common import Place, asking_options, in_tonnes, place_of, say, say_json, say_rows, terminal
 
 BUDGET = 100000
 HEAD = ["change", "result", "tonnes", "at most", "difference", "seconds"]
@@ -29,8 +29,8 @@ waypoint.
 
 \b
 {(changes or '').partition(chr(10) + chr(10))[2]}
-With --json: `day`, `headline`, and `changes`, a list of `change`, `result`, `refused`, `cargo`, `bound`, `least`, `most` and `seconds`; the
-cargo, its bound and the difference, from `least` to `most`, in tenths of a tonne.
+With --json: `day`, `headline`, and `changes`, a list of `change`, `result`, `refused`, `cargo_t`, `bound_t`, `least_t`, `most_t` and
+`seconds`; the cargo, its bound and the difference, from `least_t` to `most_t`, in tonnes.
 
 \b
 Example: tw try fleet=6 depth.Bar=+10 close.Bar=14:00-16:00
@@ -115,7 +115,8 @@ class Worth:
         for name, one in zip(self.names, self.planned):
             said, (least, most) = one.verdict, self.limits(one.verdict)
             found.append({"change": name, "result": said.word if said else None, "refused": one.refused or None,
-                          "cargo": said.cargo if said else None, "bound": said.bound if said else None, "least": least, "most": most,
+                          "cargo_t": in_tonnes(said.cargo if said else None),
+                          "bound_t": in_tonnes(said.bound if said else None), "least_t": in_tonnes(least), "most_t": in_tonnes(most),
                           "seconds": round(one.seconds, 2)})
         return {"day": self.place.folder.day, "headline": headline(self.base, self.place.program.proved), "changes": found}
 

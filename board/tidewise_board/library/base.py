@@ -182,10 +182,23 @@ def at_place(name: str, fault: Fault) -> Wrong:
     return Wrong(Told(name, fault.cause, place=".".join(map(str, fault.place)) or "root"))
 
 
+def members_of(pairs: list[tuple[str, Any]]) -> Members:
+    """An object of JSON, each of whose members may stand there once; remarks as often as they like."""
+    members = dict(pairs)
+    if len(members) < len(pairs):
+        names = [name for name, _ in pairs if not name.startswith("#")]
+        for number, name in enumerate(names):
+            if name in names[:number]:
+                raise Fault((name,), "this member stands there twice")
+    return members
+
+
 def read_port(name: str, text: str, order: str | None, day: int | None = None) -> Port:
     """What a base file says, or why it says nothing."""
     try:
-        base = json.loads(text)
+        base = json.loads(text, object_pairs_hook=members_of)
+    except Fault as cause:
+        raise at_place(name, cause) from None
     except json.JSONDecodeError as fault:
         raise Wrong(Told(name, fault.msg, row=fault.lineno)) from None
     except (ValueError, RecursionError):
