@@ -10,4 +10,4 @@ pub mod Ports
 pub mod Days
 pub mod Values
 pub mod Meeting
-pub mod Reading
+pub mod Reread
