@@ -1,17 +1,14 @@
 -- A search whose lines went to Proof.
-use Rattle.std.proofs.Common.{◌≡◌, ◌≤◌, ◌++◌, ◌∙◌, ℕ, List, [], true, false, Option, Some, None, Result, Ok, Err, inr, refl, sym, ap, subst, arith, append-nil}
-use Rattle.std.specs.Prelude.{IfSome, is_err, option_and_then}
+use Rattle.std.proofs.Common.{◌≡◌, ◌∙◌, ℕ, List, true, false, Option, Some, None, Result, Ok, Err, inr, sym, ap, subst, arith}
+use Rattle.std.specs.Prelude.{IfSome, is_err}
 use Rattle.hw_model.specs.Problem.{Problem}
-use Rattle.hw_desk.specs.State.{DeskState, TrayState, put_tray, Rose}
-use Rattle.hw_desk.specs.Calls.{OnlyTray, Makes}
+use Rattle.hw_desk.specs.State.{DeskState, Rose}
+use Rattle.hw_desk.specs.Calls.{Makes}
 use Rattle.hw_desk.specs.Whole.{SendsText}
-use Rattle.hw_desk.specs.declared.desk.Tray.{Tray}
-use Rattle.hw_desk.specs.declared.desk.Tray.TheVariants.{Report, Proof}
+use Rattle.hw_desk.specs.declared.desk.Tray.TheVariants.{Proof}
 use Rattle.hw_desk.proofs.Chain.{only_tray_on}
-use Rattle.hw_cert.specs.declared.version.Version.{Version}
-use Rattle.hw_cert.specs.Logs.{LogTold, outside_of, Outside}
-use Rattle.hw_cert.specs.Texts.{cert_text}
-use Rattle.hw_cert.specs.Told.{header_line_of, told_under, is_told_under, log_under, IsTextUnder}
+use Rattle.hw_cert.specs.Logs.{outside_of, Outside}
+use Rattle.hw_cert.specs.Told.{header_line_of, is_told_under, log_under}
 use Rattle.hw_command.proofs.OnProof.{by_lines, outside_only, whole_text}
 use Rattle.hw_command_search.specs.Searchers.{Searcher}
 use Rattle.hw_command_search.specs.Searching.{SearchMeets, SearchLeaves, SearchesTo}

@@ -1,6 +1,5 @@
 -- A search that goes on from a certificate of a subject.
-use Rattle.std.proofs.Common.{◌≡◌, ◌++◌, ◌∙◌, ℕ, List, [], ◌∷◌, Option, Some, None, Result, Ok, Err, Vec, false, inl, inr, append-nil, ap, refl, subst, sym}
-use Rattle.std.specs.declared.alloc.Global.{Global}
+use Rattle.std.proofs.Common.{◌≡◌, ◌∙◌, ℕ, List, [], ◌∷◌, Option, Some, None, Result, Ok, Err, false, inl, inr, ap, refl, subst, sym}
 use Rattle.std.specs.Prelude.{IfSome}
 use Rattle.hw_model.specs.Problem.{Problem}
 use Rattle.hw_model.specs.Rooms.{room_count}
@@ -9,8 +8,6 @@ use Rattle.hw_desk.specs.State.{DeskState}
 use Rattle.hw_desk.specs.declared.desk.Feed.TheVariants.{Certificate}
 use Rattle.hw_desk.specs.declared.desk.Tray.TheVariants as tray
 use Rattle.hw_cert_lines.specs.declared.line.Line.{Line}
-use Rattle.hw_cert_lines.specs.declared.check.Verdict.{Verdict}
-use Rattle.hw_cert_lines.specs.Lines.{last_table}
 use Rattle.hw_cert.specs.declared.version.Version.TheVariants.{Three}
 use Rattle.hw_cert.specs.Texts.{cert_text}
 use Rattle.hw_cert.proofs.Answered.{told_map}
@@ -21,14 +18,11 @@ use Rattle.hw_command.specs.Carries.{Carries}
 use Rattle.hw_command.specs.Certificates.{report_of_check}
 use Rattle.hw_command.specs.Ends.{Ends, EndsWith}
 use Rattle.hw_command.specs.Readings.{KeepsLines}
-use Rattle.hw_command.specs.Scope.{Entered, named_feed}
+use Rattle.hw_command.specs.Scope.{named_feed}
 use Rattle.hw_command.specs.Sending.{SendsTo}
-use Rattle.hw_command.specs.Works.{Works, is_common}
-use Rattle.hw_command.specs.declared.cert.ReadCert.{ReadCert}
+use Rattle.hw_command.specs.Works.{is_common}
 use Rattle.hw_command.specs.declared.outcome.CertOutcome.{CertOutcome}
-use Rattle.hw_command.specs.declared.outcome.CertOutcome.TheVariants.{Shows, Wrong, TooLong}
 use Rattle.hw_command.specs.declared.outcome.CertStop.{CertStop}
-use Rattle.hw_command.specs.declared.outcome.CertStop.TheVariants.{Fault, NoMemory}
 use Rattle.hw_command.specs.declared.status.Status.{Status}
 use Rattle.hw_command.specs.declared.status.Status.TheVariants.{WriteFault}
 use Rattle.hw_command.proofs.SentWorks.{broken_works, made, sent_works}
