@@ -1,5 +1,5 @@
 -- A search within a part of a split of a subject, that goes on from a certificate.
-use Rattle.std.proofs.Common.{◌≡◌, ◌==◌, ◌++◌, ◌∙◌, ℕ, ◌+◌, ◌-◌, Bool, true, false, List, [], ◌∷◌, Option, Some, None, Result, Ok, Err, Vec, All, IsTrue, inl, inr, append-nil, append_assoc, ap, refl, subst, sym, get_or}
+use Rattle.std.proofs.Common.{◌≡◌, ◌==◌, ◌++◌, ◌∙◌, ℕ, ◌+◌, ◌-◌, Bool, true, false, List, [], ◌∷◌, Option, Some, None, Result, Ok, Err, Vec, All, IsTrue, inl, inr, append_assoc, ap, refl, subst, sym, get_or}
 use Rattle.std.specs.declared.alloc.Global.{Global}
 use Rattle.std.specs.Prelude.{codes, length, slice_get, if◌then◌else◌}
 use Rattle.std.proofs.lemmas.List.Elements.{All-get_or}

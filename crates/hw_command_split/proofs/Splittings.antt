@@ -1,5 +1,5 @@
 -- A split of a subject, made by the best that a certificate knows.
-use Rattle.std.proofs.Common.{◌≡◌, ◌++◌, ◌∙◌, ℕ, false, List, [], ◌∷◌, Option, Some, None, Result, Ok, Err, cond, inl, inr, append-nil, ap, refl, subst, sym, arith}
+use Rattle.std.proofs.Common.{◌≡◌, ◌++◌, ◌∙◌, ℕ, false, List, [], ◌∷◌, Some, None, Result, Ok, Err, cond, inl, inr, append-nil, refl, subst, sym, arith}
 use Rattle.std.specs.Prelude.{◌≤◌, ◌<◌, IfOk, count_by, length}
 use Rattle.std.proofs.lemmas.List.Sums.{sum_by-cons}
 use Rattle.hw_model.specs.Problem.{Problem, shape_of}
@@ -7,22 +7,18 @@ use Rattle.hw_model.specs.declared.shape.Shape.{Shape}
 use Rattle.hw_desk.specs.State.{DeskState}
 use Rattle.hw_desk.specs.declared.desk.Feed.TheVariants.{Certificate}
 use Rattle.hw_desk.specs.declared.desk.Tray.TheVariants as tray
-use Rattle.hw_cert_lines.specs.Lines.{last_table}
 use Rattle.hw_cert.specs.declared.version.Version.TheVariants.{Three}
 use Rattle.hw_cert.proofs.Answered.{told_map}
 use Rattle.hw_report.specs.Reports.{Report, Naming, no_memory, parts_told, refused, too_long}
 use Rattle.hw_command.specs.Carries.{Carries}
 use Rattle.hw_command.specs.Certificates.{report_of_check}
 use Rattle.hw_command.specs.Ends.{Ends, EndsWith}
-use Rattle.hw_command.specs.Readings.{KeepsNone, ReadsCert, outcome_in}
-use Rattle.hw_command.specs.Scope.{Entered, named_feed}
+use Rattle.hw_command.specs.Readings.{KeepsNone, ReadsCert}
+use Rattle.hw_command.specs.Scope.{named_feed}
 use Rattle.hw_command.specs.Sending.{SendsTo}
-use Rattle.hw_command.specs.Works.{Works, is_common}
 use Rattle.hw_command.specs.declared.cert.ReadCert.{ReadCert}
 use Rattle.hw_command.specs.declared.outcome.CertOutcome.{CertOutcome}
-use Rattle.hw_command.specs.declared.outcome.CertOutcome.TheVariants.{Shows, Wrong, TooLong}
 use Rattle.hw_command.specs.declared.outcome.CertStop.{CertStop}
-use Rattle.hw_command.specs.declared.outcome.CertStop.TheVariants.{Fault, NoMemory}
 use Rattle.hw_command.specs.declared.status.Status.{Status}
 use Rattle.hw_command.specs.declared.status.Status.TheVariants.{WriteFault}
 use Rattle.hw_command.proofs.Begun.{wants_memory}

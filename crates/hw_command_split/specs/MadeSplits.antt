@@ -2,9 +2,7 @@
 use Rattle.std.specs.Prelude.{◌≡◌, ◌≤◌, ◌⊎◌, ℕ, List, Option, Some, None, Result, Ok, Err, count_by}
 use Rattle.hw_model.specs.Problem.{Problem, shape_of}
 use Rattle.hw_desk.specs.State.{DeskState}
-use Rattle.hw_cert_lines.specs.declared.check.Verdict.{Verdict}
 use Rattle.hw_cert_lines.specs.declared.check.Verdict.TheVariants as verdicts
-use Rattle.hw_cert.specs.declared.version.Version.TheVariants.{Three}
 use Rattle.hw_command.specs.Readings.{KeepsNone}
 use Rattle.hw_command.specs.Sending.{SendsTo}
 use Rattle.hw_command.specs.declared.outcome.CertOutcome.{CertOutcome}
