@@ -42,10 +42,10 @@ read_back a c b (Some x) None h k = absurd h
 read_back a c b (Some x) (Some y) h k = h ∙ k
 
 -- what is kept after lines that were taken
-pub kept_later : {f : Problem} {told : Option (List ℕ)} {outcome : List ℕ → CertOutcome} {read : List ℕ → CertLines} {all : List Line} {r : ReaderModel} {c : CheckState} {y : DeskState} (x z : DeskState) (o : CertOutcome)
+pub kept_later : {f : Problem} {told : Option (List ℕ)} {outcome : List ℕ → CertOutcome} {read : List ℕ → CertLines} {all : List Line} {r : ReaderModel} {c : CheckState} {y : DeskState} (x z : DeskState) (o : CertOutcome) (left : Option CheckState)
     → Reached f told outcome all r c y → IfSome told (λ bytes. IsSomeAnd (rest_of r y) (λ rest. read bytes ≡ rest_read f all r.at rest)) → y.read_faults ≡ x.read_faults
-    → ComesOrStops f all (rest_of r y) (rest_outcome f all r.at) y z (Ok o) → StepReads f all r y z (Ended (Ok o)) → (z.read_faults ≡ x.read_faults) × Keeps f told outcome read all o
-kept_later {f = f} {told = told} {outcome = outcome} {read = is_read} {all = all} {r = r} {y = y} x z (Shows v) h read kept k reads = (
+    → ComesOrStops f all (rest_of r y) (rest_outcome f all r.at) y z (Ok o) → StepReads f all r y z (Ended (Ok o) left) → (z.read_faults ≡ x.read_faults) × Keeps f told outcome read all o
+kept_later {f = f} {told = told} {outcome = outcome} {read = is_read} {all = all} {r = r} {y = y} x z (Shows v) left h read kept k reads = (
   k.0 ∙ kept,
   record {
     fit = subst (λ (p : Problem). All (LineFits p) all) h.problem h.follows.fit;
@@ -54,7 +54,7 @@ kept_later {f = f} {told = told} {outcome = outcome} {read = is_read} {all = all
     reads = read_back is_read (rest_read f all r.at) (complete_lines all) told (rest_of r y) read reads;
   },
 )
-kept_later {f = f} {told = told} {outcome = outcome} {all = all} {r = r} {y = y} x z (Wrong number word hint) h read kept k reads = (
+kept_later {f = f} {told = told} {outcome = outcome} {all = all} {r = r} {y = y} x z (Wrong number word hint) left h read kept k reads = (
   k.0 ∙ kept,
   record {
     fit = subst (λ (p : Problem). All (LineFits p) all) h.problem h.follows.fit;
@@ -63,7 +63,7 @@ kept_later {f = f} {told = told} {outcome = outcome} {all = all} {r = r} {y = y}
     reads = tt;
   },
 )
-kept_later {f = f} {told = told} {outcome = outcome} {all = all} {r = r} {y = y} x z TooLong h read kept k reads = (
+kept_later {f = f} {told = told} {outcome = outcome} {all = all} {r = r} {y = y} x z TooLong left h read kept k reads = (
   k.0 ∙ kept,
   record {
     fit = subst (λ (p : Problem). All (LineFits p) all) h.problem h.follows.fit;

@@ -9,6 +9,9 @@ pub mod Chained
 pub mod Kept
 pub mod Taken
 pub mod Sendings
+pub mod OnProof
+mod Thirds
+pub mod Started
 pub mod SentWorks
 pub mod PortForms
 pub mod Meanings

@@ -1,5 +1,5 @@
 -- A certificate whose lines are taken one after another.
-use Rattle.std.proofs.Common.{◌≡◌, ◌∙◌, ℕ, true, false, List, [], ◌∷◌, ◌++◌, Option, Result, Ok, Err, All, subst}
+use Rattle.std.proofs.Common.{◌≡◌, ◌∙◌, ℕ, true, false, List, [], ◌∷◌, ◌++◌, Option, Result, Ok, Err, All, subst, sym}
 use Rattle.std.proofs.lemmas.List.Elements.{All-push}
 use Rattle.std.specs.Result.{is_err}
 use Rattle.std.specs.Prelude.{IfSome, IsSomeAnd, OnOk}
@@ -14,15 +14,17 @@ use Rattle.hw_cert.specs.Laws.{has_form}
 use Rattle.hw_cert.specs.Nexts.{rest_of}
 use Rattle.hw_cert.specs.Reader.{ReaderModel}
 use Rattle.hw_cert.specs.Stream.{Position, CertLines, cert_stream_to}
+use Rattle.hw_check.specs.Follows.{CheckerFollows}
 use Rattle.hw_check.specs.States.{CheckState}
 use Rattle.hw_command.specs.Certificates.{cert_outcome_to}
-use Rattle.hw_command.specs.Checking.{Reached, rest_outcome, ComesOrStops, IsCheckingOpen, OpensCert}
+use Rattle.hw_command.specs.Checking.{Reached, rest_outcome, ComesOrStops, IsCheckingOpen, LeavesChecker, OpensCert}
 use Rattle.hw_command.specs.Keeping.{rest_read, StepReads}
-use Rattle.hw_command.specs.Readings.{ReadsOrStops, ReadsRest, ReadsCert}
+use Rattle.hw_command.specs.Readings.{HandsOn, ReadsOrStops, ReadsRest, ReadsCert}
 use Rattle.hw_command.specs.declared.cert.CertStep.TheVariants.{Further, Ended}
 use Rattle.hw_command.specs.declared.cert.OpenCert.{OpenCert}
 use Rattle.hw_command.specs.declared.cert.ReadCert.{ReadCert}
 use Rattle.hw_command.specs.declared.outcome.CertOutcome.{CertOutcome}
+use Rattle.hw_command.specs.declared.outcome.CertOutcome.TheVariants.{Shows, Wrong, TooLong}
 use Rattle.hw_command.specs.declared.outcome.CertStop.{CertStop}
 use Rattle.hw_command.specs.declared.outcome.CertStop.TheVariants.{Fault, NoMemory}
 use Rattle.hw_command.proofs.Begun.{rose_on}
@@ -56,15 +58,21 @@ taken_on {f = f} {told = told} {read = is_read} {most = most} {before = before} 
       formed = All-push (λ line. has_form most line ≡ true) before line h.formed (subst (λ (v : Version). has_form v line ≡ true) h.version form);
     }
 
+-- the checker that is handed on has taken all the lines
+hands_on : (f : Problem) (all : List Line) (c : CheckState) (o : CertOutcome) (left : Option CheckState) → CheckerFollows c all → c.problem ≡ f → LeavesChecker c (Ended (Ok o) left) → HandsOn f all o left
+hands_on f all c (Shows v) left follows same e = subst (λ (it : Option CheckState). HandsOn f all (Shows v) it) (sym e) (follows, same)
+hands_on f all c (Wrong number word hint) left follows same e = e
+hands_on f all c TooLong left follows same e = e
+
 -- what was read after lines that were taken
 pub read_onward : {K : Type 0} {Kept : K → List Line → Type 0} {f : Problem} {told : Option (List ℕ)} {outcome : List ℕ → CertOutcome} {read : List ℕ → CertLines} {most : Version} {all : List Line} {r : ReaderModel} {c : CheckState} (x y z : DeskState) (cert : ReadCert K)
     → Taken f told outcome read most all r c y → Kept cert.kept all → cert.bound ≡ bound_of all → y.read_faults ≡ x.read_faults
-    → ComesOrStops c.problem all (rest_of r y) (rest_outcome c.problem all r.at) y z (Ok cert.outcome) → StepReads c.problem all r y z (Ended (Ok cert.outcome)) → ReadsOrStops most Kept f told outcome read x z (Ok cert)
-read_onward {all = all} {r = r} x y z cert h kept bound same k reads =
+    → ComesOrStops c.problem all (rest_of r y) (rest_outcome c.problem all r.at) y z (Ok cert.outcome) → StepReads c.problem all r y z (Ended (Ok cert.outcome) cert.checker) → LeavesChecker c (Ended (Ok cert.outcome) cert.checker) → ReadsOrStops most Kept f told outcome read x z (Ok cert)
+read_onward {f = f} {all = all} {r = r} {c = c} x y z cert h kept bound same k reads left =
     let step = subst (λ (p : Problem). ComesOrStops p all (rest_of r y) (rest_outcome p all r.at) y z (Ok cert.outcome)) h.reached.problem k in
-    let one = subst (λ (p : Problem). StepReads p all r y z (Ended (Ok cert.outcome))) h.reached.problem reads in
-    let both = kept_later x z cert.outcome h.reached h.reads same step one in
-    (both.0, record { lines = all; formed = h.formed; keeps = both.1; last = bound; kept = kept })
+    let one = subst (λ (p : Problem). StepReads p all r y z (Ended (Ok cert.outcome) cert.checker)) h.reached.problem reads in
+    let both = kept_later x z cert.outcome cert.checker h.reached h.reads same step one in
+    (both.0, record { lines = all; formed = h.formed; keeps = both.1; last = bound; kept = kept; hands = hands_on f all c cert.outcome cert.checker h.reached.follows h.reached.problem left })
 
 -- the same after a step without a fault
 reads_from : {K : Type 0} (most : Version) (Kept : K → List Line → Type 0) (f : Problem) (told : Option (List ℕ)) (outcome : List ℕ → CertOutcome) (read : List ℕ → CertLines) (x y z : DeskState) (found : Result (ReadCert K) CertStop) → y.read_faults ≡ x.read_faults → ReadsOrStops most Kept f told outcome read y z found → ReadsOrStops most Kept f told outcome read x z found

@@ -1,5 +1,5 @@
 -- The lines of a certificate that were taken so far.
-use Rattle.std.specs.Prelude.{◌≡◌, ◌≤◌, ◌<◌, ◌+◌, ◌^◌, ℕ, List, [], true, ◌∷◌, ◌++◌, Option, None, Result, Ok, Err, IfSome, IsSomeAnd, ⊤, is_none, if◌then◌else◌}
+use Rattle.std.specs.Prelude.{◌≡◌, ◌≤◌, ◌<◌, ◌+◌, ◌^◌, ℕ, List, [], true, ◌∷◌, ◌++◌, Option, Some, None, Result, Ok, Err, IfSome, IsSomeAnd, ⊤, is_none, if◌then◌else◌}
 use Rattle.hw_model.specs.Problem.{Problem, shape_of}
 use Rattle.hw_text.specs.Parts.{parts_of}
 use Rattle.hw_desk.specs.State.{DeskState, Rose}
@@ -89,7 +89,7 @@ ComesOrStops f all told outcome old new (Err stop) = NoOutcome old new stop
 -- one more line was taken and no read failed, or the check has ended
 abbrev pub Steps : Problem → List Line → ReaderModel → DeskState → DeskState → CertStep → Type 0
 Steps f before r old new (Further reader checker line) = (new.read_faults ≡ old.read_faults) × Reached f (rest_of r old) (rest_outcome f before r.at) (before ++ line ∷ []) reader checker new
-Steps f before r old new (Ended found) = ComesOrStops f before (rest_of r old) (rest_outcome f before r.at) old new found
+Steps f before r old new (Ended found left) = ComesOrStops f before (rest_of r old) (rest_outcome f before r.at) old new found
 
 -- the same of a checker, whatever the lines before
 abbrev pub CheckerSteps : ReaderModel → CheckState → DeskState → DeskState → CertStep → Type 0
@@ -98,12 +98,20 @@ CheckerSteps r c old new step = (before : List Line) → CheckerFollows c before
 -- after a line one more can be taken
 abbrev pub GoesFurther : ReaderModel → DeskState → CertStep → Type 0
 GoesFurther r now (Further reader checker line) = IsReady reader checker now × (r.at.taken < reader.at.taken)
-GoesFurther r now (Ended found) = ⊤
+GoesFurther r now (Ended found left) = ⊤
 
 -- a line that was taken has a form of the versions that may be read, and these stay the same
 abbrev pub StaysWithin : ReaderModel → CertStep → Type 0
 StaysWithin r (Further reader checker line) = (reader.at.most ≡ r.at.most) × (has_form r.at.most line ≡ true)
-StaysWithin r (Ended found) = ⊤
+StaysWithin r (Ended found left) = ⊤
+
+-- the checker is handed on where something is shown, and not otherwise
+abbrev pub LeavesChecker : CheckState → CertStep → Type 0
+LeavesChecker c (Further reader checker line) = ⊤
+LeavesChecker c (Ended (Ok (Shows v)) left) = left ≡ Some c
+LeavesChecker c (Ended (Ok (Wrong number word hint)) left) = left ≡ None
+LeavesChecker c (Ended (Ok TooLong) left) = left ≡ None
+LeavesChecker c (Ended (Err stop) left) = ⊤
 
 -- the outcome of a certificate whose line of this number isn't taken
 abbrev pub of_check_stop : ℕ → CheckStop → Result CertOutcome CertStop

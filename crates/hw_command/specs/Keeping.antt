@@ -30,8 +30,8 @@ rest_read f before at rest = before_lines before (stream_of (shape_of f) at (par
 -- the line that was taken is the next one that is read; and where something is shown, nothing is left
 abbrev pub StepReads : Problem → List Line → ReaderModel → DeskState → DeskState → CertStep → Type 0
 StepReads f before r old new (Further reader checker line) = IfSome (rest_of r old) (λ rest. IsSomeAnd (rest_of reader new) (λ more. rest_read f before r.at rest ≡ rest_read f (before ++ line ∷ []) reader.at more))
-StepReads f before r old new (Ended (Ok (Shows v))) = IfSome (rest_of r old) (λ rest. rest_read f before r.at rest ≡ complete_lines before)
-StepReads f before r old new (Ended found) = ⊤
+StepReads f before r old new (Ended (Ok (Shows v)) left) = IfSome (rest_of r old) (λ rest. rest_read f before r.at rest ≡ complete_lines before)
+StepReads f before r old new (Ended found left) = ⊤
 
 -- the same of a checker, whatever the lines before
 abbrev pub ReadsOn : ReaderModel → CheckState → DeskState → DeskState → CertStep → Type 0

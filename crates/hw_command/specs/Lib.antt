@@ -13,3 +13,6 @@ pub mod Checking
 pub mod Keeping
 pub mod Readings
 pub mod Sending
+pub mod Third
+pub mod Starting
+pub mod WorkEnds

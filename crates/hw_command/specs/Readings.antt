@@ -1,5 +1,5 @@
 -- A certificate that is read to its end or up to the first wrong line, and what is kept of its lines.
-use Rattle.std.specs.Prelude.{◌≡◌, ℕ, List, [], Option, Result, Ok, Err, All, Vec, ⊤, true}
+use Rattle.std.specs.Prelude.{◌≡◌, ℕ, List, [], Option, Some, None, Result, Ok, Err, All, Vec, ⊤, true}
 use Rattle.std.specs.declared.alloc.Global.{Global}
 use Rattle.hw_model.specs.Problem.{Problem, shape_of}
 use Rattle.hw_desk.specs.State.{DeskState}
@@ -12,6 +12,7 @@ use Rattle.hw_cert.specs.Laws.{has_form}
 use Rattle.hw_cert.specs.Nexts.{rest_of}
 use Rattle.hw_cert.specs.Reader.{ReaderModel}
 use Rattle.hw_cert.specs.Stream.{CertLines, cert_stream_to}
+use Rattle.hw_check.specs.Follows.{CheckerFollows}
 use Rattle.hw_check.specs.States.{CheckState}
 use Rattle.hw_command.specs.Certificates.{cert_outcome_to}
 use Rattle.hw_command.specs.Checking.{rest_outcome, NoOutcome}
@@ -19,6 +20,7 @@ use Rattle.hw_command.specs.Inputs.{Enters}
 use Rattle.hw_command.specs.Keeping.{Keeps, rest_read}
 use Rattle.hw_command.specs.declared.cert.ReadCert.{ReadCert}
 use Rattle.hw_command.specs.declared.outcome.CertOutcome.{CertOutcome}
+use Rattle.hw_command.specs.declared.outcome.CertOutcome.TheVariants.{Shows, Wrong, TooLong}
 use Rattle.hw_command.specs.declared.outcome.CertStop.{CertStop}
 use Rattle.hw_command.specs.declared.taking.LastTable.{LastTable}
 
@@ -38,13 +40,21 @@ KeepsTable kept lines = kept.0 ≡ last_table lines
 
 -- ---- a certificate
 
--- the valid lines before an outcome, which have forms of the versions up to this one, and are all that the bytes read as if it shows something; the last bound among them; and what was kept of them
+-- a checker of the problem that has taken these lines, where they show something, and none otherwise
+abbrev pub HandsOn : Problem → List Line → CertOutcome → Option CheckState → Type 0
+HandsOn f all (Shows v) None = ⊥
+HandsOn f all (Shows v) (Some checker) = CheckerFollows checker all × (checker.problem ≡ f)
+HandsOn f all (Wrong number word hint) left = left ≡ None
+HandsOn f all TooLong left = left ≡ None
+
+-- the valid lines before an outcome, which have forms of the versions up to this one, and are all that the bytes read as if it shows something; the last bound among them; what was kept of them, and their checker
 pub record ReadsLines {K : Type 0} (most : Version) (Kept : K → List Line → Type 0) (f : Problem) (told : Option (List ℕ)) (outcome : List ℕ → CertOutcome) (read : List ℕ → CertLines) (cert : ReadCert K) : Type 0 where
   pub lines : List Line
   pub formed : All (λ line. has_form most line ≡ true) lines
   pub keeps : Keeps f told outcome read lines cert.outcome
   pub last : cert.bound ≡ bound_of lines
   pub kept : Kept cert.kept lines
+  pub hands : HandsOn f lines cert.outcome cert.checker
 
 -- the outcome alone
 abbrev pub outcome_in : {K : Type 0} → Result (ReadCert K) CertStop → Result CertOutcome CertStop

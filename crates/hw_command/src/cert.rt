@@ -1,12 +1,12 @@
 //! Checking a certificate of a problem, line by line.
 
-ghost use Rattle.std.specs.Prelude.{◌≡◌, [], ℕ, List, false};
+ghost use Rattle.std.specs.Prelude.{◌≡◌, [], ℕ, List, None, false};
 ghost use Rattle.hw_check.specs.Follows.{CheckerFollows};
 ghost use Rattle.hw_desk.specs.Calls.{Moves};
 ghost use Rattle.hw_report.specs.Printing.{CanPrint};
 ghost use Rattle.hw_report.specs.Seen.{names_seen, report_seen};
 ghost use Rattle.hw_command.specs.Certificates.{report_of_check};
-ghost use Rattle.hw_command.specs.Checking.{GoesFurther, IsReady, OpensCert, StaysWithin, CheckerSteps, of_line_stop, of_check_stop};
+ghost use Rattle.hw_command.specs.Checking.{GoesFurther, IsReady, LeavesChecker, OpensCert, StaysWithin, CheckerSteps, of_line_stop, of_check_stop};
 ghost use Rattle.hw_command.specs.Keeping.{ReadsOn};
 ghost use Rattle.hw_command.specs.Readings.{ReadsCert, ReadsRest};
 
@@ -27,12 +27,14 @@ struct OpenCert<'f> {
 }
 
 /// A certificate that was read: its outcome, the bound of the last bound line among those taken, in
-/// tenths of a tonne, if there is one, and what was kept of them.
+/// tenths of a tonne, if there is one, what was kept of them, and the checker that has taken them all,
+/// where they show something.
 #[derive(Drop)]
-pub struct ReadCert<K> {
+pub struct ReadCert<'f, K> {
     pub outcome: CertOutcome,
     pub bound: Option<u64>,
     pub kept: K,
+    pub checker: Option<Checker<'f>>,
 }
 
 /// Where a check stands after one more line, which is handed back.
@@ -43,7 +45,21 @@ enum CertStep<'f> {
         checker: Checker<'f>,
         line: Line,
     },
-    Ended(Result<CertOutcome, CertStop>),
+    /// The checker is there where the lines show something.
+    Ended {
+        found: Result<CertOutcome, CertStop>,
+        checker: Option<Checker<'f>>,
+    },
+}
+
+/// The check has ended, and no checker is left.
+fn refused<'f>(found: Result<CertOutcome, CertStop>) -> CertStep<'f>
+    ensures { result ≡ CertStep.Ended found None }
+{
+    CertStep::Ended {
+        found,
+        checker: None,
+    }
 }
 
 /// Begins a certificate under its name. Versions later than this one will be refused.
@@ -73,14 +89,14 @@ fn open_cert<'f, D: Desk>(
 /// Begins a certificate of a version up to this one under its name, and checks its lines one by one up
 /// to its end or up to the first wrong one. Each line taken is given to `kept`. An error says that a
 /// read failed, or that memory ran out.
-pub fn read_cert<D: Desk, K: LineTaker>(
+pub fn read_cert<'f, D: Desk, K: LineTaker>(
     alloc: Global,
     desk: &mut D,
-    flat: &Flat,
+    flat: &'f Flat,
     name: &str,
     most: Version,
     kept: K,
-) -> Result<ReadCert<K>, CertStop>
+) -> Result<ReadCert<'f, K>, CertStop>
     requires unread { ((D.state desk.old).feeds Feed.Certificate).begun ≡ false }
     requires none { K.keeps kept [] }
     ensures { ReadsCert most K.keeps flat.now name.now (D.state desk.old) (D.state desk.new) result }
@@ -92,12 +108,12 @@ pub fn read_cert<D: Desk, K: LineTaker>(
 }
 
 /// Checks the remaining lines. Each takes at least one of at most 2^40 bytes.
-fn read_lines<D: Desk, K: LineTaker>(
+fn read_lines<'f, D: Desk, K: LineTaker>(
     desk: &mut D,
     mut reader: LineReader,
-    mut checker: Checker<'_>,
+    mut checker: Checker<'f>,
     mut kept: K,
-) -> Result<ReadCert<K>, CertStop>
+) -> Result<ReadCert<'f, K>, CertStop>
     requires ready { IsReady reader checker (D.state desk.old) }
     requires fresh { CheckerFollows checker [] }
     requires none { K.keeps kept [] }
@@ -118,14 +134,21 @@ fn read_lines<D: Desk, K: LineTaker>(
                 reader = past_reader;
                 checker = followed;
             }
-            CertStep::Ended(Ok(outcome)) => {
+            CertStep::Ended {
+                found: Ok(outcome),
+                checker: taken,
+            } => {
                 return Ok(ReadCert {
                     outcome,
                     bound,
                     kept,
+                    checker: taken,
                 });
             }
-            CertStep::Ended(Err(stop)) => return Err(stop),
+            CertStep::Ended {
+                found: Err(stop),
+                ..
+            } => return Err(stop),
         }
     }
 }
@@ -138,6 +161,7 @@ fn check_line<'f, D: Desk>(desk: &mut D, reader: LineReader, checker: Checker<'f
     ensures within { StaysWithin reader result }
     ensures reads { ReadsOn reader checker.entry (D.state desk.old) (D.state desk.new) result }
     ensures steps { CheckerSteps reader checker.entry (D.state desk.old) (D.state desk.new) result }
+    ensures left { LeavesChecker checker.entry result }
 {
     match reader.next(desk) {
         Ok(Next::Line { reader, line }) => {
@@ -148,11 +172,14 @@ fn check_line<'f, D: Desk>(desk: &mut D, reader: LineReader, checker: Checker<'f
                     checker,
                     line,
                 },
-                Err(stop) => CertStep::Ended(refused_line(number, stop)),
+                Err(stop) => refused(refused_line(number, stop)),
             }
         }
-        Ok(Next::End) => CertStep::Ended(Ok(CertOutcome::Shows(checker.verdict()))),
-        Err(stop) => CertStep::Ended(no_line(stop)),
+        Ok(Next::End) => CertStep::Ended {
+            found: Ok(CertOutcome::Shows(checker.verdict())),
+            checker: Some(checker),
+        },
+        Err(stop) => refused(no_line(stop)),
     }
 }
 

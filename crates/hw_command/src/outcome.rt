@@ -1,6 +1,10 @@
 //! The outcome of a certificate.
 
+ghost use Rattle.std.specs.Prelude.{◌≡◌};
+ghost use Rattle.hw_command.specs.Starting.{shows_nothing, stop_outcome};
+
 use hw_cert::Verdict;
+use hw_cert_course::CourseStop;
 use hw_report::RefusedWord;
 
 /// The outcome of a certificate, whether its problem is a flat text's or a port's.
@@ -24,4 +28,28 @@ pub enum CertStop {
     /// A begin or a read failed.
     Fault,
     NoMemory,
+}
+
+/// Whether an outcome is that of a certificate that is refused.
+pub fn shows_nothing(outcome: CertOutcome) -> bool
+    ensures { result ≡ shows_nothing outcome }
+{
+    match outcome {
+        CertOutcome::Shows(_) => false,
+        CertOutcome::Wrong { .. } | CertOutcome::TooLong => true,
+    }
+}
+
+/// Why lines don't go on, told as of a certificate: the first one that isn't taken, or no memory.
+pub fn stop_outcome(stop: CourseStop) -> Result<CertOutcome, CertStop>
+    ensures { result ≡ stop_outcome stop }
+{
+    match stop {
+        CourseStop::Refused { number, refusal } => Ok(CertOutcome::Wrong {
+            number,
+            word: RefusedWord::Check(refusal.word),
+            hint: refusal.hint,
+        }),
+        CourseStop::NoMemory => Err(CertStop::NoMemory),
+    }
 }

@@ -34,6 +34,7 @@ pub fn chart<D: Desk>(alloc: Global, desk: &mut D, subject: Subject, cert: &str)
         outcome,
         bound,
         kept,
+        ..
     } = match read_cert(alloc, desk, flat, cert, Version::Three, LastTable(None)) {
         Ok(read) => read,
         Err(stop) => return finish(desk, &check_report(Err(stop), None, None, Names::Flat)),

@@ -24,12 +24,12 @@ use Rattle.hw_command_check.specs.Rewriting.{ReadsOrRewrites, Rewrites}
 
 -- what was read, without what was kept
 abbrev pub bare : {K : Type 0} → ReadCert K → ReadCert (Unit {0})
-bare read = record { outcome = read.outcome; bound = read.bound; kept = tt }
+bare read = record { outcome = read.outcome; bound = read.bound; kept = tt; checker = read.checker }
 
 abbrev pub bare_reads : {K : Type 0} {Kept : K → List Line → Type 0} {most : Version} {f : Problem} {cert : List ℕ} {x y : DeskState} (read : ReadCert K) → ReadsCert most Kept f cert x y (Ok read) → ReadsCert most KeepsNone f cert x y (Ok (bare read))
 bare_reads read h =
     let k = h.reads.1 in
-    record { enters = h.enters; reads = (h.reads.0, record { lines = k.lines; formed = k.formed; keeps = k.keeps; last = k.last; kept = tt }) }
+    record { enters = h.enters; reads = (h.reads.0, record { lines = k.lines; formed = k.formed; keeps = k.keeps; last = k.last; kept = tt; hands = k.hands }) }
 
 -- lines that show something show the same once renewed
 pub shows_again : {f : Problem} {cert : List ℕ} {x y : DeskState} (read : ReadCert (Unit {0})) (v : Verdict) → (h : ReadsCert Two KeepsNone f cert x y (Ok read)) → read.outcome ≡ Shows v → HasVerdict f v (renewed h.reads.1.lines)

@@ -28,10 +28,10 @@ use std::alloc::Global;
 
 /// What comes of a certificate that is to be renewed.
 #[derive(Drop)]
-enum Renewal {
+enum Renewal<'f> {
     /// What was read of it. If it shows something, its renewed lines were sent to Proof; otherwise
     /// Proof wasn't made.
-    Checked(Result<ReadCert<()>, CertStop>),
+    Checked(Result<ReadCert<'f, ()>, CertStop>),
     /// A make or a write of Proof failed.
     WriteFailed,
 }
@@ -59,7 +59,13 @@ pub fn renew<D: Desk>(
 
 /// Begins the certificate under its name and checks it, and then makes Proof under its name and sends
 /// the renewed lines there. Proof isn't made if a line is refused or memory runs out.
-fn renew_to<D: Desk>(alloc: Global, desk: &mut D, flat: &Flat, cert: &str, proof: &str) -> Renewal
+fn renew_to<'f, D: Desk>(
+    alloc: Global,
+    desk: &mut D,
+    flat: &'f Flat,
+    cert: &str,
+    proof: &str,
+) -> Renewal<'f>
     requires unread { ((D.state desk.old).feeds Certificate).begun ≡ false }
     requires unmade { ((D.state desk.old).trays Proof).made ≡ false }
     ensures { RenewsTo flat.now cert.now proof.now (D.state desk.old) (D.state desk.new) result }
@@ -69,6 +75,7 @@ fn renew_to<D: Desk>(alloc: Global, desk: &mut D, flat: &Flat, cert: &str, proof
         outcome,
         bound,
         kept: lines,
+        checker,
     } = match read_cert(alloc, desk, flat, cert, Version::Two, lines) {
         Ok(read) => read,
         Err(stop) => return Renewal::Checked(Err(stop)),
@@ -77,6 +84,7 @@ fn renew_to<D: Desk>(alloc: Global, desk: &mut D, flat: &Flat, cert: &str, proof
         outcome,
         bound,
         kept: (),
+        checker,
     };
     let CertOutcome::Shows(_) = outcome else {
         return Renewal::Checked(Ok(read));
@@ -91,8 +99,8 @@ fn renew_to<D: Desk>(alloc: Global, desk: &mut D, flat: &Flat, cert: &str, proof
 }
 
 /// The report of what comes of a certificate, or none if Proof failed: then nothing more is sent.
-fn renewal_report<'a>(renewal: Renewal, given: &'a Given) -> Option<Report<'a>>
-    ensures value { option_map report_seen result ≡ report_of_renewal (naming_of given.now.named) (repair_ships given.now.flat (plan_in given.now.repair)) renewal }
+fn renewal_report<'a>(renewal: Renewal<'_>, given: &'a Given) -> Option<Report<'a>>
+    ensures value { option_map report_seen result ≡ report_of_renewal (naming_of given.now.named) (repair_ships given.now.flat (plan_in given.now.repair)) renewal.entry }
     ensures printed { IfSome result (λ report. CanPrint (report_seen report)) }
 {
     match renewal {

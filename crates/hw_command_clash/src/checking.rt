@@ -54,14 +54,15 @@ pub fn read_checked<D: Desk>(
         Ok(made) => made,
         Err(report) => return Err(report),
     };
-    match read_cert(alloc, desk, &made.flat, cert, Version::Two, ()) {
-        Ok(read) => Ok(CheckedClash {
-            given,
-            clash: made.clash,
-            outcome: read.outcome,
-        }),
-        Err(stop) => Err(check_report(Err(stop), None, None, Names::Flat)),
-    }
+    let outcome = match read_cert(alloc, desk, &made.flat, cert, Version::Two, ()) {
+        Ok(read) => read.outcome,
+        Err(stop) => return Err(check_report(Err(stop), None, None, Names::Flat)),
+    };
+    Ok(CheckedClash {
+        given,
+        clash: made.clash,
+        outcome,
+    })
 }
 
 /// Reads and checks a clash and its certificate, and reports.

@@ -1,35 +1,20 @@
 -- A search whose lines went to Proof.
-use Rattle.std.proofs.Common.{◌≡◌, ◌≤◌, ◌++◌, ◌∙◌, ℕ, List, [], true, false, Option, Some, None, Result, Ok, Err, inr, refl, sym, ap, subst, arith, append-nil}
-use Rattle.std.specs.Prelude.{IfSome, is_err, option_and_then}
+use Rattle.std.proofs.Common.{◌≡◌, ◌∙◌, ℕ, List, true, false, Option, Some, None, Result, Ok, Err, inr, sym, ap, subst, arith}
+use Rattle.std.specs.Prelude.{IfSome, is_err}
 use Rattle.hw_model.specs.Problem.{Problem}
-use Rattle.hw_desk.specs.State.{DeskState, TrayState, put_tray, Rose}
-use Rattle.hw_desk.specs.Calls.{OnlyTray, Makes}
+use Rattle.hw_desk.specs.State.{DeskState, Rose}
+use Rattle.hw_desk.specs.Calls.{Makes}
 use Rattle.hw_desk.specs.Whole.{SendsText}
-use Rattle.hw_desk.specs.declared.desk.Tray.{Tray}
-use Rattle.hw_desk.specs.declared.desk.Tray.TheVariants.{Report, Proof}
+use Rattle.hw_desk.specs.declared.desk.Tray.TheVariants.{Proof}
 use Rattle.hw_desk.proofs.Chain.{only_tray_on}
-use Rattle.hw_cert.specs.declared.version.Version.{Version}
-use Rattle.hw_cert.specs.Logs.{LogTold, outside_of, Outside}
-use Rattle.hw_cert.specs.Texts.{cert_text}
-use Rattle.hw_cert.specs.Told.{header_line_of, told_under, is_told_under, log_under, IsTextUnder}
-use Rattle.hw_cert.proofs.Telling.{some_told}
-use Rattle.hw_cert.proofs.ToldText.{each_text_told}
+use Rattle.hw_cert.specs.Logs.{outside_of, Outside}
+use Rattle.hw_cert.specs.Told.{header_line_of, is_told_under, log_under}
+use Rattle.hw_command.proofs.OnProof.{by_lines, outside_only, whole_text}
 use Rattle.hw_command_search.specs.Searchers.{Searcher}
 use Rattle.hw_command_search.specs.Searching.{SearchMeets, SearchLeaves, SearchesTo}
 use Rattle.hw_command_search.specs.declared.finding.Found.{Found}
 
 -- ---- what is on Proof
-
--- what holds of the lines told holds of the bytes told
-pub by_lines : (version : Version) {P : LogTold → Type 0} {Q : List ℕ → Type 0} (sent : Option (List ℕ)) → is_told_under version sent ≡ true → IfSome (option_and_then (told_under version) sent) P → ((told : LogTold) (bytes : List ℕ) → IsTextUnder version told bytes → P told → Q bytes) → IfSome sent Q
-by_lines version None told h k = tt
-by_lines version {P = P} (Some bytes) told h k =
-    let t = some_told (told_under version bytes) told in
-    k t.0 bytes (each_text_told version bytes t.0 t.1) (subst (λ (o : Option LogTold). IfSome o P) t.1 h)
-
--- the text of whole lines
-pub whole_text : (version : Version) {told : LogTold} {bytes : List ℕ} → IsTextUnder version told bytes → told.remainder ≡ [] → bytes ≡ cert_text version told.lines
-whole_text version {told = told} t e = t.text ∙ ap (λ (remainder : List ℕ). cert_text version told.lines ++ remainder) e ∙ append-nil (cert_text version told.lines)
 
 leaves : (q : Searcher) (f : Problem) (budget : ℕ) (found : Option Found) (x y z : DeskState) → y.write_faults ≡ x.write_faults → is_told_under q.version (z.trays Proof).sent ≡ true → SearchMeets q f budget (log_under q.version y) found (log_under q.version z) → SearchLeaves q f budget x z found
 leaves q f budget (Some found) x y z before told m = (
@@ -44,25 +29,6 @@ leaves q f budget None x y z before told m = (
   where
     rose : Rose y.write_faults z.write_faults → Rose x.write_faults z.write_faults
     rose h = omega (arith, before)
-
--- ---- the frame
-
--- no tray but Proof may have changed
-only_proof : (x y : Tray → TrayState) → y Report ≡ x Report → y ≡ put_tray x Proof (y Proof)
-only_proof x y e = λ i t. (at t) i
-  where
-    at : (t : Tray) → y t ≡ put_tray x Proof (y Proof) t
-    at Report = e
-    at Proof = refl
-
-pub outside_only : {y z : DeskState} → outside_of z ≡ outside_of y → y.write_faults ≤ z.write_faults → OnlyTray Proof y z
-outside_only {y = y} {z = z} e later = record {
-  held = ap (λ (o : Outside). o.held) e;
-  feeds = ap (λ (o : Outside). o.feeds) e;
-  trays = only_proof y.trays z.trays (ap (λ (o : Outside). o.report) e);
-  read_faults = ap (λ (o : Outside). o.read_faults) e;
-  later = later;
-}
 
 -- ---- the search has run
 

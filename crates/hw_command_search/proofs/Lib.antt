@@ -4,6 +4,5 @@ mod Ending
 mod Owned
 mod Finishing
 mod Demonstrated
-mod Thirds
 mod Continued
 pub mod Resumptions

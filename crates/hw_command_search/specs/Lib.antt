@@ -6,6 +6,5 @@ pub mod Searching
 pub mod Searches
 pub mod Rows
 pub mod Demo
-pub mod Third
 pub mod Resumes
 pub mod Resuming

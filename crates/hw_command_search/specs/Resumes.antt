@@ -6,7 +6,6 @@ use Rattle.hw_desk.specs.State.{DeskState}
 use Rattle.hw_desk.specs.declared.desk.Feed.TheVariants.{Certificate}
 use Rattle.hw_desk.specs.declared.desk.Tray.TheVariants as tray
 use Rattle.hw_cert_lines.specs.declared.check.Refusal.{Refusal}
-use Rattle.hw_cert_lines.specs.declared.check.Verdict.{Verdict}
 use Rattle.hw_cert_lines.specs.declared.line.Line.{Line}
 use Rattle.hw_cert_lines.specs.Lemmas.{lemmas_of}
 use Rattle.hw_cert_lines.specs.Lines.{best_of, last_table, is_closed}
@@ -27,7 +26,7 @@ use Rattle.hw_repair.specs.Wishes.{PlanParts}
 use Rattle.hw_cert_course.specs.Going.{LinesGoOn}
 use Rattle.hw_search_resumed.specs.Going.{LineIsRefused}
 use Rattle.hw_subject.specs.Meanings.{HeadSays, IsBoundOf, IsPrintedTable, judged, repaired_problem}
-use Rattle.hw_subject.specs.Shown.{Shown, Refused}
+use Rattle.hw_subject.specs.Shown.{Refused, Starts}
 use Rattle.hw_subject.specs.Subjects.{Subject}
 use Rattle.hw_command_search.specs.Certified.{head_verdict, own_bound, searched_head}
 use Rattle.hw_command_search.specs.Finding.{moved_told}
@@ -55,17 +54,6 @@ pub record IsLonger (f : Problem) (plan : Option PlanParts) (budget : ℕ) (head
   pub lines : List Line
   pub text : bytes ≡ cert_text Three lines
   pub goes_on : GoesOnTo f plan budget head table bound start lines
-
--- ---- the start
-
--- what is read, and what the certificate shows of it
-pub record Starts (s : Subject) (cert : List ℕ) (held : List ℕ → Option (List ℕ)) : Type 0 where
-  pub value : s.Value
-  pub reads : s.Reads held value
-  pub shows : Verdict
-  pub bound : Option ℕ
-  pub table : Option (List ℕ)
-  pub shown : Shown s value Three (held cert) shows bound table
 
 -- ---- what is said
 

@@ -16,12 +16,10 @@ mod reporting;
 mod resuming;
 mod searcher;
 mod searching;
-mod third;
 
 pub use command::search_subject;
 pub use demonstration::{Draw, demo};
 pub use laws::cut_rows;
 pub use order::{MOST_TURNS, Order};
-pub use resuming::{resume_subject, shows_nothing, stop_outcome};
+pub use resuming::resume_subject;
 pub use searcher::Search;
-pub use third::{ProofFailed, send_third};

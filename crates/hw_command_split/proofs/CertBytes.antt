@@ -25,7 +25,7 @@ use Rattle.hw_command.specs.declared.outcome.CertStop.{CertStop}
 use Rattle.hw_command.specs.declared.outcome.CertStop.TheVariants.{Fault, NoMemory}
 use Rattle.hw_cert_join.specs.Joining.{FitEach}
 use Rattle.hw_command_split.specs.Certs.{AreCerts, CertAnswer, CertsAnswer, CertsComeTo, EndsFirst, FirstCerts, IsCertOf, ReadsCerts, StopsIn, lines_in, most_certs, moved_on, moved_stop}
-use Rattle.hw_command_search.specs.Resuming.{shows_nothing}
+use Rattle.hw_command.specs.Starting.{shows_nothing}
 
 -- ---- one of them
 

@@ -26,6 +26,7 @@ use Rattle.hw_command.specs.declared.status.Status.{Status}
 use Rattle.hw_command.specs.declared.status.Status.TheVariants.{WriteFault}
 use Rattle.hw_command.proofs.Begun.{entered_on, refuses, rose_on, wants_memory}
 use Rattle.hw_command.proofs.SentWorks.{broken_works, made, sent_works}
+use Rattle.hw_command.proofs.Started.{course_works}
 use Rattle.hw_command.proofs.Stops.{stops_carries}
 use Rattle.hw_split_text.specs.declared.node.Node.{Node}
 use Rattle.hw_cert_course.specs.Courses.{CourseStopsFor}
@@ -43,10 +44,10 @@ use Rattle.hw_subject.proofs.Shown.{bound_says, verdict_says}
 use Rattle.hw_subject.proofs.Readings.{all_as, all_on, before_last}
 use Rattle.hw_command_split.specs.Certs.{AreCerts, CertsStopIn, JoinsTo, ReadsCerts, SendsJoined, Unjoined, Unread, joined_reports, open_reports}
 use Rattle.hw_command_split.specs.Joining.{GivesSplit, JoinDone, JoinGives, JoinSays, JoinsCerts, join_task}
-use Rattle.hw_command_search.specs.Resuming.{stop_outcome}
+use Rattle.hw_command.specs.Starting.{stop_outcome}
 use Rattle.hw_command_split.specs.Splits.{ReadsSplit, StopsAtSplit}
-use Rattle.hw_command_split.specs.declared.joining.JoinEnd.{JoinEnd}
-use Rattle.hw_command_split.specs.declared.joining.JoinEnd.TheVariants as outcomes
+use Rattle.hw_command.specs.declared.ending.Ending.{Ending}
+use Rattle.hw_command.specs.declared.ending.Ending.TheVariants as outcomes
 use Rattle.hw_command_split.proofs.SplitInputs.{IsSplitless, both_entered, split_of_judged, split_stops, splitless}
 
 -- ---- the inputs
@@ -86,7 +87,7 @@ as_task : (s : Subject) (split certs : List ℕ) {proof : List ℕ} {Gives : Fee
 as_task s split certs {proof = proof} {Gives = Gives} {x = x} {w = w} {r = r} works = subst (λ (inputs : List Named). Works inputs Gives (Some proof) x w r) (same_inputs s split certs) works
 
 -- what comes of what was read is what comes of the judged problem
-of_judged : (s : Subject) (certs proof : List ℕ) (z w : DeskState) (nodes : List Node) (end : JoinEnd) {x y : DeskState} {given : Given} → (h : ReadsSubject s x y given) → JoinsTo (searched_in given.flat given.repair) nodes certs proof z w end → JoinsTo (judged s h.value) nodes certs proof z w end
+of_judged : (s : Subject) (certs proof : List ℕ) (z w : DeskState) (nodes : List Node) (end : Ending Joined) {x y : DeskState} {given : Given} → (h : ReadsSubject s x y given) → JoinsTo (searched_in given.flat given.repair) nodes certs proof z w end → JoinsTo (judged s h.value) nodes certs proof z w end
 of_judged s certs proof z w nodes end h k = subst (λ (f : Problem). JoinsTo f nodes certs proof z w end) h.searched k
 
 -- ---- the inputs give nothing
@@ -152,8 +153,7 @@ unread_meets topic {split = split} {certs = certs} {proof = proof} {w = w} names
 
 unjoined_works : (topic : Topic) {split certs proof : List ℕ} (names : Naming) {x y z w : DeskState} {given : Given} {nodes : List Node} {f : Problem} {taken : Vec (Vec Line Global) Global} (stop : CourseStop) → ReadsSubject (topic_subject topic) x y given → ReadsSplit (searched_in given.flat given.repair) split y z nodes → ReadsCerts f certs z w (Ok taken)
     → Works (before (topic_subject topic) split ++ named_feed feeds.Certificate certs ∷ []) (JoinGives (topic_subject topic) split x.held) (Some proof) x w (report_of_check names None None (stop_outcome stop))
-unjoined_works topic {split = split} {certs = certs} {proof = proof} names (stops.Refused number cause) h k m = refuses (Some proof) (before (topic_subject topic) split) (named_feed feeds.Certificate certs) [] _ (sym (append-nil _)) refl (all_entered topic h k m) (give_all topic certs h k) (m.answer.0 ∙ (k.read_faults ∙ h.read_faults))
-unjoined_works topic {split = split} {certs = certs} {proof = proof} names stops.NoMemory h k m = wants_memory (Some proof) (before (topic_subject topic) split ++ named_feed feeds.Certificate certs ∷ []) [] (sym (append-nil _)) (all_entered topic h k m) (give_all topic certs h k) (m.answer.0 ∙ (k.read_faults ∙ h.read_faults))
+unjoined_works topic {split = split} {certs = certs} {proof = proof} names stop h k m = course_works (before (topic_subject topic) split) certs names (Some proof) stop (all_entered topic h k m) (give_all topic certs h k) (m.answer.0 ∙ (k.read_faults ∙ h.read_faults))
 
 unjoined_says : (topic : Topic) {split : List ℕ} (certs proof : List ℕ) (names : Naming) {x y z : DeskState} (w : DeskState) {given : Given} {nodes : List Node} (stop : CourseStop) → (h : ReadsSubject (topic_subject topic) x y given) → ReadsSplit (searched_in given.flat given.repair) split y z nodes → CourseStopsFor (judged (topic_subject topic) h.value) [] stop → is_common (report_of_check names None None (stop_outcome stop)) ≡ false → JoinSays (topic_subject topic) split certs proof x w (report_of_check names None None (stop_outcome stop) ∷ [])
 unjoined_says topic certs proof names w (stops.Refused number cause) h k fails own = record { gives = gives_split h k; refused = inr (cause, fails, refl, refl) }
@@ -180,7 +180,7 @@ joins_certs topic {certs = certs} j h k m = record {
   joins = m.joins;
 }
 
-joined_done : (topic : Topic) {split certs proof : List ℕ} {x y z w : DeskState} {given : Given} {nodes : List Node} (j : Joined) → (h : ReadsSubject (topic_subject topic) x y given) → ReadsSplit (searched_in given.flat given.repair) split y z nodes → SendsJoined {E = Unit} (judged (topic_subject topic) h.value) nodes certs proof z w j (Ok tt) → JoinDone (topic_subject topic) split certs proof x w j.verdict j.bound (repair_ships ((topic_subject topic).problem h.value) ((topic_subject topic).plan h.value)) ((topic_subject topic).naming h.value) j.first_open
+joined_done : (topic : Topic) {split certs proof : List ℕ} {x y z w : DeskState} {given : Given} {nodes : List Node} (j : Joined) → (h : ReadsSubject (topic_subject topic) x y given) → ReadsSplit (searched_in given.flat given.repair) split y z nodes → SendsJoined (judged (topic_subject topic) h.value) nodes certs proof z w j (Ok tt) → JoinDone (topic_subject topic) split certs proof x w j.verdict j.bound (repair_ships ((topic_subject topic).problem h.value) ((topic_subject topic).plan h.value)) ((topic_subject topic).naming h.value) j.first_open
 joined_done topic {w = w} j h k m =
     let s = topic_subject topic in
     let lines = m.joins.joins in
@@ -207,7 +207,7 @@ joined_works : {inputs : List Named} {Gives : Feed → Type 0} {proof text : Lis
 joined_works names ships j None h give sends read = sent_works (checked j.verdict j.bound ships names) refl h give sends read
 joined_works names ships j (Some number) h give sends read = sent_works (open_part number) refl h give sends read
 
-sent_meets : (topic : Topic) {split certs proof : List ℕ} {x y z w end : DeskState} {given : Given} {nodes : List Node} {e : Status} (j : Joined) → (h : ReadsSubject (topic_subject topic) x y given) → ReadsSplit (searched_in given.flat given.repair) split y z nodes → SendsJoined {E = Unit} (judged (topic_subject topic) h.value) nodes certs proof z w j (Ok tt)
+sent_meets : (topic : Topic) {split certs proof : List ℕ} {x y z w end : DeskState} {given : Given} {nodes : List Node} {e : Status} (j : Joined) → (h : ReadsSubject (topic_subject topic) x y given) → ReadsSplit (searched_in given.flat given.repair) split y z nodes → SendsJoined (judged (topic_subject topic) h.value) nodes certs proof z w j (Ok tt)
     → Ends (joined_reports ((topic_subject topic).naming h.value) (repair_ships ((topic_subject topic).problem h.value) ((topic_subject topic).plan h.value)) j) w end e → Carries (join_task (topic_subject topic) split certs proof) x end e
 sent_meets topic {split = split} {certs = certs} {proof = proof} {x = x} {w = w} j h k m ends =
     let s = topic_subject topic in
@@ -221,7 +221,7 @@ sent_meets topic {split = split} {certs = certs} {proof = proof} {x = x} {w = w}
       ends = ends;
     }
 
-broke_meets : (topic : Topic) {split certs proof : List ℕ} {x y z w end : DeskState} {given : Given} {nodes : List Node} {e : Status} (j : Joined) → (h : ReadsSubject (topic_subject topic) x y given) → ReadsSplit (searched_in given.flat given.repair) split y z nodes → SendsJoined {E = Unit} (judged (topic_subject topic) h.value) nodes certs proof z w j (Err tt) → EndsWith None w end e → Carries (join_task (topic_subject topic) split certs proof) x end e
+broke_meets : (topic : Topic) {split certs proof : List ℕ} {x y z w end : DeskState} {given : Given} {nodes : List Node} {e : Status} (j : Joined) → (h : ReadsSubject (topic_subject topic) x y given) → ReadsSplit (searched_in given.flat given.repair) split y z nodes → SendsJoined (judged (topic_subject topic) h.value) nodes certs proof z w j (Err tt) → EndsWith None w end e → Carries (join_task (topic_subject topic) split certs proof) x end e
 broke_meets topic {split = split} {certs = certs} {proof = proof} {x = x} {w = w} j h k m ends =
     let s = topic_subject topic in
     record {

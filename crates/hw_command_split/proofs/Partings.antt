@@ -1,5 +1,5 @@
 -- A search within a part of a split of a subject, that goes on from a certificate.
-use Rattle.std.proofs.Common.{◌≡◌, ◌==◌, ◌++◌, ◌∙◌, ℕ, ◌+◌, ◌-◌, Bool, true, false, List, [], ◌∷◌, Option, Some, None, Result, Ok, Err, Vec, All, IsTrue, inl, inr, append-nil, append_assoc, ap, refl, subst, sym, get_or}
+use Rattle.std.proofs.Common.{◌≡◌, ◌==◌, ◌++◌, ◌∙◌, ℕ, ◌+◌, ◌-◌, Bool, true, false, List, [], ◌∷◌, Option, Some, None, Result, Ok, Err, Vec, All, IsTrue, inl, inr, append_assoc, ap, refl, subst, sym, get_or}
 use Rattle.std.specs.declared.alloc.Global.{Global}
 use Rattle.std.specs.Prelude.{codes, length, slice_get, if◌then◌else◌}
 use Rattle.std.proofs.lemmas.List.Elements.{All-get_or}
@@ -62,11 +62,12 @@ use Rattle.hw_subject.proofs.Readings.{all_as, all_on, before_last}
 use Rattle.hw_subject.proofs.Shows.{ReadsOf, shown_of}
 use Rattle.hw_command_split.specs.Parting.{GivesPart, GoesOnIn, IsClosedPart, PartDone, PartGives, PartSays, PartStarts, part_task}
 use Rattle.hw_command_split.specs.Parts.{IsPartRoom, NoPartRoom, PartUnanswered, PartsTo, SendsParted}
-use Rattle.hw_command_search.specs.Resuming.{ShowsNothing, StartsOn, Unstarted, shows_nothing, stop_outcome}
+use Rattle.hw_command.specs.Starting.{ShowsNothing, StartsCourse, StartsOn, Unstarted, stop_outcome}
+use Rattle.hw_cert_course.specs.declared.going_on.Course.{Course}
 use Rattle.hw_command_split.specs.Splits.{ReadsSplit, StopsAtSplit}
-use Rattle.hw_command_split.specs.declared.parting.PartEnd.{PartEnd}
-use Rattle.hw_command_split.specs.declared.parting.PartEnd.TheVariants as outcomes
-use Rattle.hw_command_search.proofs.Resumptions.{kept_lines, ok_same, starts_on}
+use Rattle.hw_command.specs.declared.ending.Ending.{Ending}
+use Rattle.hw_command.specs.declared.ending.Ending.TheVariants as outcomes
+use Rattle.hw_command.proofs.Started.{course_works, ok_same}
 use Rattle.hw_command_split.proofs.SplitInputs.{IsSplitless, both_entered, split_of_judged, split_stops, splitless}
 
 -- ---- the inputs
@@ -98,13 +99,13 @@ all_entered : (topic : Topic) {split start : List ℕ} {x y z w : DeskState} {gi
 all_entered topic {split = split} h k m = entered_on (before (topic_subject topic) split) (both_entered topic h k) m.enters ((splitless topic).certless split)
 
 -- what comes of what was read is what comes of the judged problem
-of_judged : (s : Subject) (room : RoomModel) (start proof : List ℕ) (budget : ℕ) (z w : DeskState) (end : PartEnd) {x y : DeskState} {given : Given} → (h : ReadsSubject s x y given) → PartsTo (searched_in given.flat given.repair) room start budget proof z w end → PartsTo (judged s h.value) room start budget proof z w end
+of_judged : (s : Subject) (room : RoomModel) (start proof : List ℕ) (budget : ℕ) (z w : DeskState) (end : Ending Bool) {x y : DeskState} {given : Given} → (h : ReadsSubject s x y given) → PartsTo (searched_in given.flat given.repair) room start budget proof z w end → PartsTo (judged s h.value) room start budget proof z w end
 of_judged s room start proof budget z w end h k = subst (λ (f : Problem). PartsTo f room start budget proof z w end) h.searched k
 
 -- ---- the start
 
 -- what the certificate shows
-abbrev starts : (topic : Topic) {split start : List ℕ} {number : ℕ} {x y z w : DeskState} {given : Given} {nodes : List Node} {room : RoomModel} → (h : ReadsSubject (topic_subject topic) x y given) → ReadsSplit (searched_in given.flat given.repair) split y z nodes → IsPartRoom (searched_in given.flat given.repair) nodes number room → StartsOn (judged (topic_subject topic) h.value) start z w → PartStarts (topic_subject topic) split number start x.held
+abbrev starts : (topic : Topic) {split start : List ℕ} {number : ℕ} {x y z w : DeskState} {given : Given} {nodes : List Node} {room : RoomModel} → (h : ReadsSubject (topic_subject topic) x y given) → ReadsSplit (searched_in given.flat given.repair) split y z nodes → IsPartRoom (searched_in given.flat given.repair) nodes number room → StartsOn KeepsLines (judged (topic_subject topic) h.value) start z w → PartStarts (topic_subject topic) split number start x.held
 starts topic {start = start} {x = x} {z = z} h k p m =
     let s = topic_subject topic in
     let lines = m.reads.reads.1 in
@@ -247,7 +248,7 @@ unstarted_works topic {split = split} {start = start} {proof = proof} {number = 
     subst (λ (o : Result CertOutcome CertStop). Works (before s split ++ named_feed feeds.Certificate start ∷ []) (PartGives s split number x.held) (Some proof) x w (report_of_check names None None o)) (sym is)
     (cert_works names None None (Some proof) result (both_entered topic h k) (k.read_faults ∙ h.read_faults) ((splitless topic).certless split) (give_all topic start h k p) m)
 
-unstarted_meets : (topic : Topic) {split start proof : List ℕ} {number budget : ℕ} {x y z w end : DeskState} {given : Given} {nodes : List Node} {room : RoomModel} {e : Status} (names : Naming) (stopped : Result CertOutcome CertStop) → ReadsSubject (topic_subject topic) x y given → ReadsSplit (searched_in given.flat given.repair) split y z nodes → IsPartRoom (searched_in given.flat given.repair) nodes number room → Unstarted (searched_in given.flat given.repair) start z w stopped → Ends (report_of_check names None None stopped ∷ []) w end e → Carries (part_task (topic_subject topic) split number start budget proof) x end e
+unstarted_meets : (topic : Topic) {split start proof : List ℕ} {number budget : ℕ} {x y z w end : DeskState} {given : Given} {nodes : List Node} {room : RoomModel} {e : Status} (names : Naming) (stopped : Result CertOutcome CertStop) → ReadsSubject (topic_subject topic) x y given → ReadsSplit (searched_in given.flat given.repair) split y z nodes → IsPartRoom (searched_in given.flat given.repair) nodes number room → Unstarted KeepsLines (searched_in given.flat given.repair) start z w stopped → Ends (report_of_check names None None stopped ∷ []) w end e → Carries (part_task (topic_subject topic) split number start budget proof) x end e
 unstarted_meets topic {split = split} {start = start} {proof = proof} {budget = budget} {w = w} names stopped h k p m ends = record {
   mid = w;
   reports = report_of_check names None None stopped ∷ [];
@@ -257,31 +258,22 @@ unstarted_meets topic {split = split} {start = start} {proof = proof} {budget = 
 }
 
 -- a line that the search added is refused, or memory ran out
-unanswered_says : (topic : Topic) {split start : List ℕ} {number : ℕ} (budget : ℕ) (proof : List ℕ) (names : Naming) {x y z w : DeskState} {given : Given} {nodes : List Node} {room : RoomModel} (stop : CourseStop) → (h : ReadsSubject (topic_subject topic) x y given) → ReadsSplit (searched_in given.flat given.repair) split y z nodes → IsPartRoom (searched_in given.flat given.repair) nodes number room → (m : StartsOn (judged (topic_subject topic) h.value) start z w) → PartStopsFor (judged (topic_subject topic) h.value) m.read.kept.items room stop
+unanswered_says : (topic : Topic) {split start : List ℕ} {number : ℕ} (budget : ℕ) (proof : List ℕ) (names : Naming) {x y z w : DeskState} {given : Given} {nodes : List Node} {room : RoomModel} {course : Course} (stop : CourseStop) → (h : ReadsSubject (topic_subject topic) x y given) → ReadsSplit (searched_in given.flat given.repair) split y z nodes → IsPartRoom (searched_in given.flat given.repair) nodes number room → (m : StartsCourse (judged (topic_subject topic) h.value) start z w course) → PartStopsFor (judged (topic_subject topic) h.value) course.lines.items room stop
     → is_common (report_of_check names None None (stop_outcome stop)) ≡ false → PartSays (topic_subject topic) split number start budget proof x w (Some (report_of_check names None None (stop_outcome stop)))
 unanswered_says topic budget proof names {room = room} (stops.Refused number cause) h k p m stopped own =
     let s = topic_subject topic in
     let f = judged s h.value in
-    let there = subst (λ (ls : List Line). LineIsRefusedIn f ls room number cause) (kept_lines m) stopped in
-    let from = starts topic h k p m in
+    let there = subst (λ (ls : List Line). LineIsRefusedIn f ls room number cause) m.lines stopped in
+    let from = starts topic h k p m.starts in
     let is : room ≡ branch_room (shape_of f) p.branch = subst (λ (f : Problem). room ≡ branch_room (shape_of f) p.branch) h.searched p.is in
     inr (record { starts = from; unclosed = sym (ap (λ (room : RoomModel). closes_room room from.shown.lines) is) ∙ there.unclosed; cause = cause; fails = there.fails; word_of = refl; hint_of = refl })
 unanswered_says topic budget proof names stops.NoMemory h k p m stopped own = absurd (cc)
-
-unanswered_works : (topic : Topic) {split start proof : List ℕ} {number : ℕ} (names : Naming) {x y z w : DeskState} {given : Given} {nodes : List Node} {room : RoomModel} {f : Problem} (stop : CourseStop) → ReadsSubject (topic_subject topic) x y given → ReadsSplit (searched_in given.flat given.repair) split y z nodes → IsPartRoom (searched_in given.flat given.repair) nodes number room → StartsOn f start z w
-    → Works (before (topic_subject topic) split ++ named_feed feeds.Certificate start ∷ []) (PartGives (topic_subject topic) split number x.held) (Some proof) x w (report_of_check names None None (stop_outcome stop))
-unanswered_works topic {split = split} {start = start} {proof = proof} names (stops.Refused number cause) h k p m =
-    let s = topic_subject topic in
-    refuses (Some proof) (before s split) (named_feed feeds.Certificate start) [] _ (sym (append-nil _)) refl (all_entered topic h k m.reads) (give_all topic start h k p) (m.reads.reads.0 ∙ (k.read_faults ∙ h.read_faults))
-unanswered_works topic {split = split} {start = start} {proof = proof} names stops.NoMemory h k p m =
-    let s = topic_subject topic in
-    wants_memory (Some proof) (before s split ++ named_feed feeds.Certificate start ∷ []) [] (sym (append-nil _)) (all_entered topic h k m.reads) (give_all topic start h k p) (m.reads.reads.0 ∙ (k.read_faults ∙ h.read_faults))
 
 unanswered_meets : (topic : Topic) {split start proof : List ℕ} {number budget : ℕ} {x y z w end : DeskState} {given : Given} {nodes : List Node} {room : RoomModel} {e : Status} (names : Naming) (stopped : Result CertOutcome CertStop) → (h : ReadsSubject (topic_subject topic) x y given) → ReadsSplit (searched_in given.flat given.repair) split y z nodes → IsPartRoom (searched_in given.flat given.repair) nodes number room → PartUnanswered (judged (topic_subject topic) h.value) room start z w stopped → Ends (report_of_check names None None stopped ∷ []) w end e → Carries (part_task (topic_subject topic) split number start budget proof) x end e
 unanswered_meets topic {split = split} {start = start} {proof = proof} {budget = budget} {w = w} {end = end} {e = e} names stopped h k p m ends = record {
   mid = w;
   reports = report_of_check names None None (stop_outcome m.stop) ∷ [];
-  works = as_task (topic_subject topic) split start (unanswered_works topic names m.stop h k p m.starts);
+  works = as_task (topic_subject topic) split start (course_works (before (topic_subject topic) split) start names (Some proof) m.stop (all_entered topic h k m.starts.starts.reads) (give_all topic start h k p) (m.starts.starts.reads.reads.0 ∙ (k.read_faults ∙ h.read_faults)));
   says = λ own. unanswered_says topic budget proof names m.stop h k p m.starts m.cause own;
   ends = subst (λ (o : Result CertOutcome CertStop). Ends (report_of_check names None None o ∷ []) w end e) m.told ends;
 }
@@ -302,42 +294,44 @@ goes_on_in {start = start} {parted = parted} is h = record {
 closes : {f : Problem} {budget : ℕ} {branch : Branch} {is_closed : Bool} {start all : List Line} → GoesOnIn f branch budget is_closed start all → is_closed ≡ true → closes_branch f all branch ≡ true
 closes h e = sym h.closed ∙ e
 
-sent_says : (topic : Topic) {split start proof : List ℕ} {number budget : ℕ} {x y z w : DeskState} {given : Given} {nodes : List Node} {room : RoomModel} (parted : Parted) → (h : ReadsSubject (topic_subject topic) x y given) → ReadsSplit (searched_in given.flat given.repair) split y z nodes → IsPartRoom (searched_in given.flat given.repair) nodes number room → SendsParted {E = Unit} (judged (topic_subject topic) h.value) room start budget proof z w parted (Ok tt) → PartDone (topic_subject topic) split number start budget proof x w parted.is_closed
-sent_says topic {budget = budget} {w = w} {room = room} parted h k p m =
+sent_says : (topic : Topic) {split start proof : List ℕ} {number budget : ℕ} {x y z w : DeskState} {given : Given} {nodes : List Node} {room : RoomModel} (is_closed : Bool) → (h : ReadsSubject (topic_subject topic) x y given) → ReadsSplit (searched_in given.flat given.repair) split y z nodes → IsPartRoom (searched_in given.flat given.repair) nodes number room → SendsParted (judged (topic_subject topic) h.value) room start budget proof z w is_closed (Ok tt) → PartDone (topic_subject topic) split number start budget proof x w is_closed
+sent_says topic {split = split} {start = start} {proof = proof} {number = number} {budget = budget} {x = x} {w = w} {room = room} is_closed h k p m =
     let s = topic_subject topic in
     let f = judged s h.value in
+    let parted = m.parted in
     let is = subst (λ (f : Problem). room ≡ branch_room (shape_of f) p.branch) h.searched p.is in
     let has = subst (λ (f : Problem). HasRoom (shape_of f) p.branch) h.searched p.has in
-    let there = subst (λ (ls : List Line). PartGoesOn f budget ls room parted) (kept_lines m.starts) m.goes_on in
+    let there = subst (λ (ls : List Line). PartGoesOn f budget ls room parted) m.starts.lines m.goes_on in
     let goes = goes_on_in is there in
-    record {
-      starts = starts topic h k p m.starts;
-      made = made (all_entered topic h k m.starts.reads) m.sends;
+    let done : PartDone s split number start budget proof x w parted.is_closed = record {
+      starts = starts topic h k p m.starts.starts;
+      made = made (all_entered topic h k m.starts.starts.reads) m.sends;
       means = λ e. closed_means f parted.lines.items p.branch (modelled topic h).limits goes.goes_on.fit goes.goes_on.valid has (closes goes e);
       certificate = told_map (w.trays tray.Proof).sent (λ bytes text. record { lines = parted.lines.items; text = text; goes_on = goes }) m.sends.answer.1;
-    }
+    } in
+    subst (λ (b : Bool). PartDone s split number start budget proof x w b) (sym m.closed) done
 
-sent_meets : (topic : Topic) {split start proof : List ℕ} {number budget : ℕ} {x y z w end : DeskState} {given : Given} {nodes : List Node} {room : RoomModel} {e : Status} (is_closed : Bool) (parted : Parted) → is_closed ≡ parted.is_closed → (h : ReadsSubject (topic_subject topic) x y given) → ReadsSplit (searched_in given.flat given.repair) split y z nodes → IsPartRoom (searched_in given.flat given.repair) nodes number room → SendsParted {E = Unit} (judged (topic_subject topic) h.value) room start budget proof z w parted (Ok tt) → Ends (part_told number is_closed ∷ []) w end e → Carries (part_task (topic_subject topic) split number start budget proof) x end e
-sent_meets topic {split = split} {start = start} {proof = proof} {number = number} {budget = budget} {x = x} {w = w} is_closed parted is h k p m ends =
+sent_meets : (topic : Topic) {split start proof : List ℕ} {number budget : ℕ} {x y z w end : DeskState} {given : Given} {nodes : List Node} {room : RoomModel} {e : Status} (is_closed : Bool) → (h : ReadsSubject (topic_subject topic) x y given) → ReadsSplit (searched_in given.flat given.repair) split y z nodes → IsPartRoom (searched_in given.flat given.repair) nodes number room → SendsParted (judged (topic_subject topic) h.value) room start budget proof z w is_closed (Ok tt) → Ends (part_told number is_closed ∷ []) w end e → Carries (part_task (topic_subject topic) split number start budget proof) x end e
+sent_meets topic {split = split} {start = start} {number = number} {w = w} is_closed h k p m ends =
     let s = topic_subject topic in
     record {
       mid = w;
       reports = part_told number is_closed ∷ [];
-      works = as_task (topic_subject topic) split start (sent_works (part_told number is_closed) refl (all_entered topic h k m.starts.reads) (give_all topic start h k p) m.sends (m.sends.only.read_faults ∙ (m.starts.reads.reads.0 ∙ (k.read_faults ∙ h.read_faults))));
-      says = λ own. (refl, subst (λ (b : Bool). PartDone s split number start budget proof x w b) (sym is) (sent_says topic parted h k p m));
+      works = as_task s split start (sent_works (part_told number is_closed) refl (all_entered topic h k m.starts.starts.reads) (give_all topic start h k p) m.sends (m.sends.only.read_faults ∙ (m.starts.starts.reads.reads.0 ∙ (k.read_faults ∙ h.read_faults))));
+      says = λ own. (refl, sent_says topic is_closed h k p m);
       ends = ends;
     }
 
 -- a make or a write failed
-broke_meets : (topic : Topic) {split start proof : List ℕ} {number budget : ℕ} {x y z w end : DeskState} {given : Given} {nodes : List Node} {room : RoomModel} {e : Status} (parted : Parted) → (h : ReadsSubject (topic_subject topic) x y given) → ReadsSplit (searched_in given.flat given.repair) split y z nodes → IsPartRoom (searched_in given.flat given.repair) nodes number room → SendsParted {E = Unit} (judged (topic_subject topic) h.value) room start budget proof z w parted (Err tt) → EndsWith None w end e → Carries (part_task (topic_subject topic) split number start budget proof) x end e
-broke_meets topic {split = split} {start = start} {proof = proof} {number = number} {budget = budget} {x = x} {w = w} {room = room} parted h k p m ends =
+broke_meets : (topic : Topic) {split start proof : List ℕ} {number budget : ℕ} {x y z w end : DeskState} {given : Given} {nodes : List Node} {room : RoomModel} {is_closed : Bool} {e : Status} → (h : ReadsSubject (topic_subject topic) x y given) → ReadsSplit (searched_in given.flat given.repair) split y z nodes → IsPartRoom (searched_in given.flat given.repair) nodes number room → SendsParted (judged (topic_subject topic) h.value) room start budget proof z w is_closed (Err tt) → EndsWith None w end e → Carries (part_task (topic_subject topic) split number start budget proof) x end e
+broke_meets topic {split = split} {start = start} {proof = proof} {number = number} {budget = budget} {x = x} {w = w} {room = room} h k p m ends =
     let s = topic_subject topic in
-    let there = subst (λ (ls : List Line). PartGoesOn (judged s h.value) budget ls room parted) (kept_lines m.starts) m.goes_on in
+    let there = subst (λ (ls : List Line). PartGoesOn (judged s h.value) budget ls room m.parted) m.starts.lines m.goes_on in
     record {
       mid = w;
       reports = [];
-      works = subst (λ (inputs : List Named). Breaks inputs (PartGives s split number x.held) (Some proof) x w) (same_inputs s split start) (broken_works (all_entered topic h k m.starts.reads) (give_all topic start h k p) (m.starts.reads.reads.0 ∙ (k.read_faults ∙ h.read_faults)) m.sends);
-      says = λ own. record { starts = starts topic h k p m.starts; lines = parted.lines.items; goes_on = there.goes_on; cut = m.sends.answer.1 };
+      works = subst (λ (inputs : List Named). Breaks inputs (PartGives s split number x.held) (Some proof) x w) (same_inputs s split start) (broken_works (all_entered topic h k m.starts.starts.reads) (give_all topic start h k p) (m.starts.starts.reads.reads.0 ∙ (k.read_faults ∙ h.read_faults)) m.sends);
+      says = λ own. record { starts = starts topic h k p m.starts.starts; lines = m.parted.lines.items; goes_on = there.goes_on; cut = m.sends.answer.1 };
       ends = ends;
     }
 
@@ -349,18 +343,35 @@ stopped_carries topic {start = start} {z = z} {given = given} {room = room} w st
 
 pub sent_carries : (topic : Topic) {split start proof : List ℕ} {number budget : ℕ} {x y z end : DeskState} {given : Given} {nodes : List Node} {room : RoomModel} {e : Status} (w : DeskState) (is_closed : Bool) → (h : ReadsSubject (topic_subject topic) x y given) → ReadsSplit (searched_in given.flat given.repair) split y z nodes → IsPartRoom (searched_in given.flat given.repair) nodes number room → PartsTo (searched_in given.flat given.repair) room start budget proof z w (outcomes.Sent is_closed) → Ends (part_told number is_closed ∷ []) w end e → Carries (part_task (topic_subject topic) split number start budget proof) x end e
 sent_carries topic {start = start} {proof = proof} {budget = budget} {z = z} {room = room} w is_closed h k p m ends =
-    let there = of_judged (topic_subject topic) room start proof budget z w (outcomes.Sent is_closed) h m in
-    sent_meets topic is_closed there.0 there.1 h k p there.2 ends
+    sent_meets topic is_closed h k p (of_judged (topic_subject topic) room start proof budget z w (outcomes.Sent is_closed) h m) ends
 
 pub broke_carries : (topic : Topic) {split start proof : List ℕ} {number budget : ℕ} {x y z : DeskState} {given : Given} {nodes : List Node} {room : RoomModel} (w : DeskState) → (h : ReadsSubject (topic_subject topic) x y given) → ReadsSplit (searched_in given.flat given.repair) split y z nodes → IsPartRoom (searched_in given.flat given.repair) nodes number room → PartsTo (searched_in given.flat given.repair) room start budget proof z w outcomes.WriteFailed → Carries (part_task (topic_subject topic) split number start budget proof) x w WriteFault
 broke_carries topic {start = start} {proof = proof} {budget = budget} {z = z} {room = room} w h k p m =
-    let there = of_judged (topic_subject topic) room start proof budget z w outcomes.WriteFailed h m in
-    broke_meets topic there.0 h k p there.1 (refl, refl)
+    broke_meets topic h k p (of_judged (topic_subject topic) room start proof budget z w outcomes.WriteFailed h m).1 (refl, refl)
 
--- ---- what was kept of the certificate
+-- ---- the lines are sent
 
-pub sent_all : {E : Type 0} {f : Problem} {start proof : List ℕ} {budget : ℕ} {z v w : DeskState} {room : RoomModel} {u : Unit {0}} (read : ReadCert (Vec Line Global)) (parted : Parted) → ReadsCert Three KeepsLines f start z v (Ok read) → shows_nothing read.outcome ≡ false → PartGoesOn f budget read.kept.items room parted → SendsTo {E = E} proof (cert_text Three parted.lines.items) v w (Ok u) → SendsParted {E = Unit} f room start budget proof z w parted (Ok tt)
-sent_all {v = v} read parted h e goes_on sends = record { mid = v; starts = starts_on read h e; goes_on = goes_on; sends = record { only = sends.only; made = sends.made; named = sends.named; answer = sends.answer } }
+pub sent_on : {E : Type 0} {f : Problem} {start proof : List ℕ} {budget : ℕ} {z v w : DeskState} {room : RoomModel} {u : Unit {0}} (course : Course) (parted : Parted) → StartsCourse f start z v course → PartGoesOn course.flat.now budget course.lines.items room parted → SendsTo {E = E} proof (cert_text Three parted.lines.items) v w (Ok u) → SendsParted f room start budget proof z w parted.is_closed (Ok tt)
+sent_on {budget = budget} {v = v} {room = room} course parted h goes_on sends = record {
+  mid = v;
+  course = course;
+  starts = h;
+  parted = parted;
+  closed = refl;
+  goes_on = subst (λ (f : Problem). PartGoesOn f budget course.lines.items room parted) h.stands.problem goes_on;
+  sends = record { only = sends.only; made = sends.made; named = sends.named; answer = sends.answer };
+}
 
-pub sent_part : {E : Type 0} {f : Problem} {start proof : List ℕ} {budget : ℕ} {z v w : DeskState} {room : RoomModel} {fault : E} (read : ReadCert (Vec Line Global)) (parted : Parted) → ReadsCert Three KeepsLines f start z v (Ok read) → shows_nothing read.outcome ≡ false → PartGoesOn f budget read.kept.items room parted → SendsTo {E = E} proof (cert_text Three parted.lines.items) v w (Err fault) → SendsParted {E = Unit} f room start budget proof z w parted (Err tt)
-sent_part {v = v} read parted h e goes_on sends = record { mid = v; starts = starts_on read h e; goes_on = goes_on; sends = record { only = sends.only; made = sends.made; named = sends.named; answer = sends.answer } }
+pub broke_off : {E : Type 0} {f : Problem} {start proof : List ℕ} {budget : ℕ} {z v w : DeskState} {room : RoomModel} {fault : E} (course : Course) (parted : Parted) → StartsCourse f start z v course → PartGoesOn course.flat.now budget course.lines.items room parted → SendsTo {E = E} proof (cert_text Three parted.lines.items) v w (Err fault) → (is_closed : Bool) × SendsParted f room start budget proof z w is_closed (Err tt)
+broke_off {budget = budget} {v = v} {room = room} course parted h goes_on sends = (
+  parted.is_closed,
+  record {
+    mid = v;
+    course = course;
+    starts = h;
+    parted = parted;
+    closed = refl;
+    goes_on = subst (λ (f : Problem). PartGoesOn f budget course.lines.items room parted) h.stands.problem goes_on;
+    sends = record { only = sends.only; made = sends.made; named = sends.named; answer = sends.answer };
+  },
+)

@@ -1,5 +1,5 @@
 -- A split of a subject, made by the best that a certificate knows.
-use Rattle.std.proofs.Common.{◌≡◌, ◌++◌, ◌∙◌, ℕ, false, List, [], ◌∷◌, Option, Some, None, Result, Ok, Err, cond, inl, inr, append-nil, ap, refl, subst, sym, arith}
+use Rattle.std.proofs.Common.{◌≡◌, ◌++◌, ◌∙◌, ℕ, false, List, [], ◌∷◌, Some, None, Result, Ok, Err, cond, inl, inr, append-nil, refl, subst, sym, arith}
 use Rattle.std.specs.Prelude.{◌≤◌, ◌<◌, IfOk, count_by, length}
 use Rattle.std.proofs.lemmas.List.Sums.{sum_by-cons}
 use Rattle.hw_model.specs.Problem.{Problem, shape_of}
@@ -7,26 +7,21 @@ use Rattle.hw_model.specs.declared.shape.Shape.{Shape}
 use Rattle.hw_desk.specs.State.{DeskState}
 use Rattle.hw_desk.specs.declared.desk.Feed.TheVariants.{Certificate}
 use Rattle.hw_desk.specs.declared.desk.Tray.TheVariants as tray
-use Rattle.hw_cert_lines.specs.Lines.{last_table}
 use Rattle.hw_cert.specs.declared.version.Version.TheVariants.{Three}
 use Rattle.hw_cert.proofs.Answered.{told_map}
 use Rattle.hw_report.specs.Reports.{Report, Naming, no_memory, parts_told, refused, too_long}
 use Rattle.hw_command.specs.Carries.{Carries}
 use Rattle.hw_command.specs.Certificates.{report_of_check}
 use Rattle.hw_command.specs.Ends.{Ends, EndsWith}
-use Rattle.hw_command.specs.Readings.{KeepsNone, ReadsCert, outcome_in}
-use Rattle.hw_command.specs.Scope.{Entered, named_feed}
+use Rattle.hw_command.specs.Readings.{KeepsNone, ReadsCert}
+use Rattle.hw_command.specs.Scope.{named_feed}
 use Rattle.hw_command.specs.Sending.{SendsTo}
-use Rattle.hw_command.specs.Works.{Works, is_common}
 use Rattle.hw_command.specs.declared.cert.ReadCert.{ReadCert}
 use Rattle.hw_command.specs.declared.outcome.CertOutcome.{CertOutcome}
-use Rattle.hw_command.specs.declared.outcome.CertOutcome.TheVariants.{Shows, Wrong, TooLong}
 use Rattle.hw_command.specs.declared.outcome.CertStop.{CertStop}
-use Rattle.hw_command.specs.declared.outcome.CertStop.TheVariants.{Fault, NoMemory}
 use Rattle.hw_command.specs.declared.status.Status.{Status}
 use Rattle.hw_command.specs.declared.status.Status.TheVariants.{WriteFault}
-use Rattle.hw_command.proofs.Begun.{entered_on, wants_memory}
-use Rattle.hw_command.proofs.CertWorks.{cert_works}
+use Rattle.hw_command.proofs.Begun.{wants_memory}
 use Rattle.hw_command.proofs.SentWorks.{broken_works, made, sent_works}
 use Rattle.hw_command.proofs.Stops.{stops_carries}
 use Rattle.hw_split_text.specs.declared.node.Node.{Node}
@@ -42,43 +37,23 @@ use Rattle.hw_subject.specs.Meanings.{judged}
 use Rattle.hw_subject.specs.Reading.{ReadsSubject, StopsAtSubject, naming_of, searched_in}
 use Rattle.hw_subject.specs.Subjects.{Subject, Topic, topic_subject}
 use Rattle.hw_subject.specs.declared.subject.Given.{Given}
-use Rattle.hw_subject.proofs.Certified.{judged_lines, modelled}
+use Rattle.hw_subject.proofs.Certified.{all_entered, modelled}
 use Rattle.hw_subject.proofs.Certless.{IsCertless, certless}
 use Rattle.hw_subject.proofs.Readings.{before_last}
-use Rattle.hw_subject.proofs.Shows.{ReadsOf, shown_of}
-use Rattle.hw_command_split.specs.MadeSplits.{ChoosesNone, IsChosenBy, IsMadeSplit, IsUndivided, KnowsBest, KnowsNothing, SendsSplit, SplitsTo}
-use Rattle.hw_command_search.specs.Resumes.{Starts}
-use Rattle.hw_command_search.specs.Resuming.{ShowsNothing, shows_nothing}
+use Rattle.hw_command_split.specs.MadeSplits.{ChoosesNone, IsChosenBy, IsMadeSplit, IsUndivided, SendsSizes, SendsSplit, SplitsTo}
+use Rattle.hw_command.specs.Starting.{Unstarted, shows_nothing}
 use Rattle.hw_command_split.specs.Splitting.{MakesSplit, SplitSays, split_task}
-use Rattle.hw_command_split.specs.declared.splitting.SplitEnd.{SplitEnd}
-use Rattle.hw_command_search.proofs.Resumptions.{ok_same, shown_by}
-use Rattle.hw_command_split.specs.declared.splitting.SplitEnd.TheVariants as outcomes
+use Rattle.hw_command.specs.declared.ending.Ending.{Ending}
+use Rattle.hw_command.specs.declared.ending.Ending.TheVariants as outcomes
+use Rattle.hw_command_split.specs.declared.splitting.Sizes.{Sizes}
+use Rattle.hw_command.proofs.Started.{starts_on}
+use Rattle.hw_subject.proofs.Started.{starts, unstarted_says, unstarted_works}
 use Rattle.hw_model_laws.proofs.Denying.{shape_fits}
 use Rattle.hw_split_text.proofs.Spelled.{one_text}
 
 -- what comes of what was read is what comes of the judged problem
-of_judged : (s : Subject) (start proof : List ℕ) (parts : ℕ) (y z : DeskState) (end : SplitEnd) {x : DeskState} {given : Given} → (h : ReadsSubject s x y given) → SplitsTo (searched_in given.flat given.repair) start parts proof y z end → SplitsTo (judged s h.value) start parts proof y z end
+of_judged : (s : Subject) (start proof : List ℕ) (parts : ℕ) (y z : DeskState) (end : Ending Sizes) {x : DeskState} {given : Given} → (h : ReadsSubject s x y given) → SplitsTo (searched_in given.flat given.repair) start parts proof y z end → SplitsTo (judged s h.value) start parts proof y z end
 of_judged s start proof parts y z end h k = subst (λ (f : Problem). SplitsTo f start parts proof y z end) h.searched k
-
--- all inputs were begun
-all_entered : (topic : Topic) {start : List ℕ} {x y z : DeskState} {given : Given} {result : Result (ReadCert (Unit {0})) CertStop} {f : Problem} → ReadsSubject (topic_subject topic) x y given → ReadsCert Three KeepsNone f start y z result → Entered ((topic_subject topic).inputs ++ named_feed Certificate start ∷ []) x z
-all_entered topic h k = entered_on (topic_subject topic).inputs h.entered k.enters (certless topic).unread
-
--- what the certificate shows
-abbrev starts : (topic : Topic) {start : List ℕ} {x y z : DeskState} {given : Given} → (h : ReadsSubject (topic_subject topic) x y given) → KnowsBest (judged (topic_subject topic) h.value) start y z → Starts (topic_subject topic) start x.held
-starts topic {start = start} {x = x} {y = y} h k =
-    let s = topic_subject topic in
-    let lines = k.reads.reads.1 in
-    let found = subst (λ (o : CertOutcome). ReadsOf s h.value Three (y.held start) lines.lines o) k.outcome lines.keeps in
-    let there = subst (λ (told : Option (List ℕ)). ReadsOf s h.value Three told lines.lines (Shows k.shows)) (ap (λ held. held start) h.entered.begins.held) found in
-    record {
-      value = h.value;
-      reads = h.reads;
-      shows = k.shows;
-      bound = k.read.bound;
-      table = last_table lines.lines;
-      shown = shown_of s h.value Three (x.held start) lines.lines k.shows k.read.bound (modelled topic h) lines.formed lines.last there;
-    }
 
 -- ---- the inputs give nothing
 
@@ -93,32 +68,12 @@ subject_stops topic parts start proof {x = x} {y = y} {r = r} h ends = stops_car
 
 -- ---- the certificate is refused
 
-nothing_says : (topic : Topic) (parts : ℕ) (proof : List ℕ) (names : Naming) {start : List ℕ} {x y z : DeskState} {given : Given} (result : Result (ReadCert (Unit {0})) CertStop) (stopped : Result CertOutcome CertStop) → (h : ReadsSubject (topic_subject topic) x y given) → ReadsCert Three KeepsNone (searched_in given.flat given.repair) start y z result → stopped ≡ outcome_in result → ShowsNothing stopped → is_common (report_of_check names None None stopped) ≡ false → SplitSays (topic_subject topic) parts start proof x z (Some (report_of_check names None None stopped))
-nothing_says topic parts proof names (Ok read) (Ok (Shows v)) h m is nothing own = absurd (cc)
-nothing_says topic parts proof names {start = start} {x = x} (Ok read) (Ok (Wrong number word hint)) h m is nothing own =
-    let s = topic_subject topic in
-    let k = judged_lines s h m in
-    record { value = h.value; reads = h.reads; outcome = (subst (ReadsOf s h.value Three (x.held start) k.lines) (ok_same (Wrong number word hint) read.outcome is) k.keeps).comes }
-nothing_says topic parts proof names {start = start} {x = x} (Ok read) (Ok TooLong) h m is nothing own =
-    let s = topic_subject topic in
-    let k = judged_lines s h m in
-    record { value = h.value; reads = h.reads; outcome = (subst (ReadsOf s h.value Three (x.held start) k.lines) (ok_same TooLong read.outcome is) k.keeps).comes }
-nothing_says topic parts proof names (Err stop) (Ok o) h m is nothing own = absurd (cc)
-nothing_says topic parts proof names result (Err Fault) h m is nothing own = absurd (cc)
-nothing_says topic parts proof names result (Err NoMemory) h m is nothing own = absurd (cc)
-
-nothing_works : (topic : Topic) (names : Naming) {start proof : List ℕ} {x y z : DeskState} {given : Given} {f : Problem} (result : Result (ReadCert (Unit {0})) CertStop) (stopped : Result CertOutcome CertStop) → ReadsSubject (topic_subject topic) x y given → ReadsCert Three KeepsNone f start y z result → stopped ≡ outcome_in result → Works ((topic_subject topic).inputs ++ named_feed Certificate start ∷ []) ((topic_subject topic).Gives x.held) (Some proof) x z (report_of_check names None None stopped)
-nothing_works topic names {start = start} {proof = proof} {x = x} {z = z} result stopped h m is =
-    let s = topic_subject topic in
-    subst (λ (o : Result CertOutcome CertStop). Works (s.inputs ++ named_feed Certificate start ∷ []) (s.Gives x.held) (Some proof) x z (report_of_check names None None o)) (sym is)
-    (cert_works names None None (Some proof) result h.entered h.read_faults (certless topic).unread (before_last (s.Gives x.held) s.inputs (named_feed Certificate start) h.give) m)
-
-nothing_meets : (topic : Topic) {parts : ℕ} {start proof : List ℕ} {x y z end : DeskState} {given : Given} {e : Status} (names : Naming) (stopped : Result CertOutcome CertStop) → (h : ReadsSubject (topic_subject topic) x y given) → KnowsNothing (searched_in given.flat given.repair) start y z stopped → Ends (report_of_check names None None stopped ∷ []) z end e → Carries (split_task (topic_subject topic) parts start proof) x end e
-nothing_meets topic {parts = parts} {proof = proof} {z = z} names stopped h k ends = record {
+nothing_meets : (topic : Topic) {parts : ℕ} {start proof : List ℕ} {x y z end : DeskState} {given : Given} {e : Status} (names : Naming) (stopped : Result CertOutcome CertStop) → (h : ReadsSubject (topic_subject topic) x y given) → Unstarted KeepsNone (searched_in given.flat given.repair) start y z stopped → Ends (report_of_check names None None stopped ∷ []) z end e → Carries (split_task (topic_subject topic) parts start proof) x end e
+nothing_meets topic {parts = parts} {start = start} {proof = proof} {x = x} {z = z} names stopped h k ends = record {
   mid = z;
   reports = report_of_check names None None stopped ∷ [];
-  works = nothing_works topic names k.result stopped h k.reads k.told;
-  says = λ own. nothing_says topic parts proof names k.result stopped h k.reads k.told k.nothing own;
+  works = unstarted_works topic names k.result stopped h k.reads k.told;
+  says = λ own. unstarted_says topic names (λ r. SplitSays (topic_subject topic) parts start proof x z (Some r)) k.result stopped (λ number word hint refused. refused) (λ long. long) h k.reads k.told k.nothing own;
   ends = ends;
 }
 
@@ -149,7 +104,7 @@ makes topic {parts = parts} nodes h k = record {
 written : (topic : Topic) {parts : ℕ} {x y : DeskState} {given : Given} {nodes : List Node} (text : List ℕ) → (h : ReadsSubject (topic_subject topic) x y given) → IsMadeSplit (judged (topic_subject topic) h.value) parts nodes text → text ≡ written_split nodes
 written topic {nodes = nodes} text h made = one_text (shape_of (judged (topic_subject topic) h.value)) nodes text (shape_fits (judged (topic_subject topic) h.value) (modelled topic h).limits) made.reads
 
-sent_meets : (topic : Topic) {parts : ℕ} {start proof : List ℕ} {x y z end : DeskState} {given : Given} {e : Status} (count tolls : ℕ) (nodes : List Node) → count ≡ count_by is_part nodes → (h : ReadsSubject (topic_subject topic) x y given) → SendsSplit {E = Unit} (judged (topic_subject topic) h.value) start parts proof y z nodes (Ok tt) → Ends (parts_told count tolls ∷ []) z end e → Carries (split_task (topic_subject topic) parts start proof) x end e
+sent_meets : (topic : Topic) {parts : ℕ} {start proof : List ℕ} {x y z end : DeskState} {given : Given} {e : Status} (count tolls : ℕ) (nodes : List Node) → count ≡ count_by is_part nodes → (h : ReadsSubject (topic_subject topic) x y given) → SendsSplit (judged (topic_subject topic) h.value) start parts proof y z nodes (Ok tt) → Ends (parts_told count tolls ∷ []) z end e → Carries (split_task (topic_subject topic) parts start proof) x end e
 sent_meets topic {start = start} {x = x} {z = z} count tolls nodes is h k ends =
     let s = topic_subject topic in
     record {
@@ -165,7 +120,7 @@ sent_meets topic {start = start} {x = x} {z = z} count tolls nodes is h k ends =
       ends = ends;
     }
 
-broke_meets : (topic : Topic) {parts : ℕ} {start proof : List ℕ} {x y z end : DeskState} {given : Given} {e : Status} (nodes : List Node) → (h : ReadsSubject (topic_subject topic) x y given) → SendsSplit {E = Unit} (judged (topic_subject topic) h.value) start parts proof y z nodes (Err tt) → EndsWith None z end e → Carries (split_task (topic_subject topic) parts start proof) x end e
+broke_meets : (topic : Topic) {parts : ℕ} {start proof : List ℕ} {x y z end : DeskState} {given : Given} {e : Status} (nodes : List Node) → (h : ReadsSubject (topic_subject topic) x y given) → SendsSplit (judged (topic_subject topic) h.value) start parts proof y z nodes (Err tt) → EndsWith None z end e → Carries (split_task (topic_subject topic) parts start proof) x end e
 broke_meets topic {start = start} {x = x} {z = z} nodes h k ends =
     let s = topic_subject topic in
     record {
@@ -182,20 +137,17 @@ pub stopped_carries : (topic : Topic) {parts : ℕ} {start proof : List ℕ} {x 
 stopped_carries topic {given = given} z stopped h (inl k) ends = nothing_meets topic (naming_of given.named) stopped h k ends
 stopped_carries topic {given = given} z stopped h (inr k) ends = none_meets topic (naming_of given.named) stopped h k ends
 
-pub sent_carries : (topic : Topic) {parts : ℕ} {start proof : List ℕ} {x y end : DeskState} {given : Given} {e : Status} (z : DeskState) (count tolls : ℕ) → ReadsSubject (topic_subject topic) x y given → SplitsTo (searched_in given.flat given.repair) start parts proof y z (outcomes.Sent count tolls) → Ends (parts_told count tolls ∷ []) z end e → Carries (split_task (topic_subject topic) parts start proof) x end e
-sent_carries topic {parts = parts} {start = start} {proof = proof} {y = y} z count tolls h k ends =
-    let there = of_judged (topic_subject topic) start proof parts y z (outcomes.Sent count tolls) h k in
-    sent_meets topic count tolls there.0 there.1 h there.2 ends
+pub sent_carries : (topic : Topic) {parts : ℕ} {start proof : List ℕ} {x y end : DeskState} {given : Given} {e : Status} (z : DeskState) (sizes : Sizes) → ReadsSubject (topic_subject topic) x y given → SplitsTo (searched_in given.flat given.repair) start parts proof y z (outcomes.Sent sizes) → Ends (parts_told sizes.parts sizes.tolls ∷ []) z end e → Carries (split_task (topic_subject topic) parts start proof) x end e
+sent_carries topic {parts = parts} {start = start} {proof = proof} {y = y} z sizes h k ends =
+    let there = of_judged (topic_subject topic) start proof parts y z (outcomes.Sent sizes) h k in
+    sent_meets topic sizes.parts sizes.tolls there.0 there.1 h there.2 ends
 
 pub broke_carries : (topic : Topic) {parts : ℕ} {start proof : List ℕ} {x y : DeskState} {given : Given} (z : DeskState) → ReadsSubject (topic_subject topic) x y given → SplitsTo (searched_in given.flat given.repair) start parts proof y z outcomes.WriteFailed → Carries (split_task (topic_subject topic) parts start proof) x z WriteFault
 broke_carries topic {parts = parts} {start = start} {proof = proof} {y = y} z h k =
     let there = of_judged (topic_subject topic) start proof parts y z outcomes.WriteFailed h k in
-    broke_meets topic there.0 h there.1 (refl, refl)
+    broke_meets topic there.1.0 h there.1.2 (refl, refl)
 
 -- ---- what was kept of the certificate
-
-abbrev pub knows : {f : Problem} {start : List ℕ} {x y : DeskState} (read : ReadCert (Unit {0})) → ReadsCert Three KeepsNone f start x y (Ok read) → shows_nothing read.outcome ≡ false → KnowsBest f start x y
-knows read h e = let v = shown_by read.outcome e in record { read = read; shows = v.0; reads = h; outcome = v.1 }
 
 -- a split that was chosen
 pub made_split : {f : Problem} {parts : ℕ} {c : ChosenSplit} → IsChosen f parts c → IsMadeSplit f parts c.split c.text.items
@@ -225,8 +177,12 @@ unfolding split_of
 text_some shape [] nodes e = absurd (cc)
 text_some shape (byte ∷ more) nodes e = omega arith
 
-pub sent_whole : {E : Type 0} {f : Problem} {start proof text : List ℕ} {parts : ℕ} {x y z : DeskState} {nodes : List Node} {u : Unit {0}} (read : ReadCert (Unit {0})) → ReadsCert Three KeepsNone f start x y (Ok read) → shows_nothing read.outcome ≡ false → IsMadeSplit f parts nodes text → IsUndivided read.outcome nodes → SendsTo {E = E} proof text y z (Ok u) → SendsSplit {E = Unit} f start parts proof x z nodes (Ok tt)
-sent_whole {text = text} {y = y} {nodes = nodes} read h e is one sends = record { mid = y; knows = knows read h e; text = text; made = is; undivided = subst (λ (o : CertOutcome). IsUndivided o nodes) (knows read h e).outcome one; sends = record { only = sends.only; made = sends.made; named = sends.named; answer = sends.answer } }
+pub sent_whole : {E : Type 0} {f : Problem} {start proof text : List ℕ} {parts : ℕ} {x y z : DeskState} {nodes : List Node} {u : Unit {0}} (read : ReadCert (Unit {0})) → ReadsCert Three KeepsNone f start x y (Ok read) → shows_nothing read.outcome ≡ false → IsMadeSplit f parts nodes text → IsUndivided read.outcome nodes → SendsTo {E = E} proof text y z (Ok u) → SendsSplit f start parts proof x z nodes (Ok tt)
+sent_whole {text = text} {y = y} {nodes = nodes} read h e is one sends = record { mid = y; knows = starts_on read h e; text = text; made = is; undivided = subst (λ (o : CertOutcome). IsUndivided o nodes) (starts_on read h e).outcome one; sends = record { only = sends.only; made = sends.made; named = sends.named; answer = sends.answer } }
 
-pub sent_short : {E : Type 0} {f : Problem} {start proof text : List ℕ} {parts : ℕ} {x y z : DeskState} {nodes : List Node} {fault : E} (read : ReadCert (Unit {0})) → ReadsCert Three KeepsNone f start x y (Ok read) → shows_nothing read.outcome ≡ false → IsMadeSplit f parts nodes text → IsUndivided read.outcome nodes → SendsTo {E = E} proof text y z (Err fault) → SendsSplit {E = Unit} f start parts proof x z nodes (Err tt)
-sent_short {text = text} {y = y} {nodes = nodes} read h e is one sends = record { mid = y; knows = knows read h e; text = text; made = is; undivided = subst (λ (o : CertOutcome). IsUndivided o nodes) (knows read h e).outcome one; sends = record { only = sends.only; made = sends.made; named = sends.named; answer = sends.answer } }
+pub sent_short : {E : Type 0} {f : Problem} {start proof text : List ℕ} {parts : ℕ} {x y z : DeskState} {nodes : List Node} {fault : E} (read : ReadCert (Unit {0})) → ReadsCert Three KeepsNone f start x y (Ok read) → shows_nothing read.outcome ≡ false → IsMadeSplit f parts nodes text → IsUndivided read.outcome nodes → SendsTo {E = E} proof text y z (Err fault) → SendsSplit f start parts proof x z nodes (Err tt)
+sent_short {text = text} {y = y} {nodes = nodes} read h e is one sends = record { mid = y; knows = starts_on read h e; text = text; made = is; undivided = subst (λ (o : CertOutcome). IsUndivided o nodes) (starts_on read h e).outcome one; sends = record { only = sends.only; made = sends.made; named = sends.named; answer = sends.answer } }
+
+-- of no size that is told
+pub sizes_broke : {f : Problem} {start proof : List ℕ} {parts : ℕ} {x z : DeskState} {nodes : List Node} → SendsSplit f start parts proof x z nodes (Err tt) → (sizes : Sizes) × SendsSizes f start parts proof x z sizes (Err tt)
+sizes_broke {nodes = nodes} h = (record { parts = count_by is_part nodes; tolls = 0 }, (nodes, refl, h))

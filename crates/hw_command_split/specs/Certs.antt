@@ -27,9 +27,9 @@ use Rattle.hw_cert_join.specs.Joining.{FitEach, JoinsEach}
 use Rattle.hw_cert_join.specs.declared.joined.Joined.{Joined}
 use Rattle.hw_cert_course.specs.declared.stop.CourseStop.{CourseStop}
 use Rattle.hw_split_text.specs.declared.node.Node.{Node}
-use Rattle.hw_command_search.specs.Resuming.{shows_nothing, stop_outcome}
-use Rattle.hw_command_split.specs.declared.joining.JoinEnd.{JoinEnd}
-use Rattle.hw_command_split.specs.declared.joining.JoinEnd.TheVariants as ends
+use Rattle.hw_command.specs.Starting.{shows_nothing, stop_outcome}
+use Rattle.hw_command.specs.WorkEnds.{EndsBy}
+use Rattle.hw_command.specs.declared.ending.Ending.{Ending}
 
 -- ---- the bytes of several certificates
 
@@ -147,18 +147,20 @@ pub record Unjoined (f : Problem) (certs : List ℕ) (old new : DeskState) (stop
   pub told : stopped ≡ stop_outcome stop
 
 -- the joined lines are sent to Proof
-pub record SendsJoined {E : Type 0} (f : Problem) (nodes : List Node) (certs proof : List ℕ) (old new : DeskState) (j : Joined) (sent : Result Unit E) : Type 0 where
+pub record SendsJoined (f : Problem) (nodes : List Node) (certs proof : List ℕ) (old new : DeskState) (j : Joined) (sent : Result Unit Unit) : Type 0 where
   pub mid : DeskState
   pub taken : Vec (Vec Line Global) Global
   pub reads : ReadsCerts f certs old mid (Ok taken)
   pub joins : JoinsEach f nodes taken.items j
   pub sends : SendsTo proof (cert_text Three j.lines.items) mid new sent
 
+-- nothing is sent where they aren't joined
+abbrev pub JoiningStops : Problem → List ℕ → DeskState → DeskState → Result CertOutcome CertStop → Type 0
+JoiningStops f certs old new stopped = Unread f certs old new stopped ⊎ Unjoined f certs old new stopped
+
 -- what comes of certificates
-abbrev pub JoinsTo : Problem → List Node → List ℕ → List ℕ → DeskState → DeskState → JoinEnd → Type 0
-JoinsTo f nodes certs proof old new (ends.Stopped stopped) = Unread f certs old new stopped ⊎ Unjoined f certs old new stopped
-JoinsTo f nodes certs proof old new (ends.Sent j) = SendsJoined {E = Unit} f nodes certs proof old new j (Ok tt)
-JoinsTo f nodes certs proof old new ends.WriteFailed = (j : Joined) × SendsJoined {E = Unit} f nodes certs proof old new j (Err tt)
+abbrev pub JoinsTo : Problem → List Node → List ℕ → List ℕ → DeskState → DeskState → Ending Joined → Type 0
+JoinsTo f nodes certs proof old new end = EndsBy (JoiningStops f certs) (SendsJoined f nodes certs proof) old new end
 
 -- ---- reported
 

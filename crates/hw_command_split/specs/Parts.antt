@@ -1,5 +1,5 @@
 -- A search within a part that goes on from the lines of a certificate, and a longer certificate that is sent to Proof.
-use Rattle.std.specs.Prelude.{◌≡◌, ◌⊎◌, ℕ, ◌+◌, List, Some, None, Result, Ok, Err, codes, length}
+use Rattle.std.specs.Prelude.{◌≡◌, ◌⊎◌, ℕ, ◌+◌, Bool, List, Some, None, Result, codes, length}
 use Rattle.hw_model.specs.Problem.{Problem, shape_of}
 use Rattle.hw_model.specs.Rooms.{RoomModel}
 use Rattle.hw_desk.specs.State.{DeskState}
@@ -16,9 +16,11 @@ use Rattle.hw_cert_course.specs.declared.stop.CourseStop.{CourseStop}
 use Rattle.hw_split_text.specs.declared.node.Node.{Node}
 use Rattle.hw_split_text.specs.Rooms.{HasRoom}
 use Rattle.hw_split_text.specs.Splits.{Branch, branch_room, part_at}
-use Rattle.hw_command_search.specs.Resuming.{StartsOn, Unstarted, stop_outcome}
-use Rattle.hw_command_split.specs.declared.parting.PartEnd.{PartEnd}
-use Rattle.hw_command_split.specs.declared.parting.PartEnd.TheVariants as ends
+use Rattle.hw_command.specs.Readings.{KeepsLines}
+use Rattle.hw_command.specs.Starting.{StartsCourse, Unstarted, stop_outcome}
+use Rattle.hw_command.specs.WorkEnds.{EndsBy}
+use Rattle.hw_command.specs.declared.ending.Ending.{Ending}
+use Rattle.hw_cert_course.specs.declared.going_on.Course.{Course}
 
 -- ---- the part
 
@@ -41,20 +43,26 @@ NoPartRoom nodes number r = (r ≡ no_memory) ⊎ LacksRoom nodes number r
 
 -- the search that went on from the certificate has no answer
 pub record PartUnanswered (f : Problem) (room : RoomModel) (start : List ℕ) (old new : DeskState) (stopped : Result CertOutcome CertStop) : Type 0 where
-  pub starts : StartsOn f start old new
+  pub course : Course
+  pub starts : StartsCourse f start old new course
   pub stop : CourseStop
-  pub cause : PartStopsFor f starts.read.kept.items room stop
+  pub cause : PartStopsFor f course.lines.items room stop
   pub told : stopped ≡ stop_outcome stop
 
--- its lines with those that the search added are sent to Proof
-pub record SendsParted {E : Type 0} (f : Problem) (room : RoomModel) (start : List ℕ) (budget : ℕ) (proof : List ℕ) (old new : DeskState) (p : Parted) (sent : Result Unit E) : Type 0 where
+-- its lines with those that the search added are sent to Proof; whether they close the part
+pub record SendsParted (f : Problem) (room : RoomModel) (start : List ℕ) (budget : ℕ) (proof : List ℕ) (old new : DeskState) (is_closed : Bool) (sent : Result Unit Unit) : Type 0 where
   pub mid : DeskState
-  pub starts : StartsOn f start old mid
-  pub goes_on : PartGoesOn f budget starts.read.kept.items room p
-  pub sends : SendsTo proof (cert_text Three p.lines.items) mid new sent
+  pub course : Course
+  pub starts : StartsCourse f start old mid course
+  pub parted : Parted
+  pub closed : is_closed ≡ parted.is_closed
+  pub goes_on : PartGoesOn f budget course.lines.items room parted
+  pub sends : SendsTo proof (cert_text Three parted.lines.items) mid new sent
+
+-- nothing is sent where the certificate isn't gone on from
+abbrev pub PartingStops : Problem → RoomModel → List ℕ → DeskState → DeskState → Result CertOutcome CertStop → Type 0
+PartingStops f room start old new stopped = Unstarted KeepsLines f start old new stopped ⊎ PartUnanswered f room start old new stopped
 
 -- what comes of a certificate
-abbrev pub PartsTo : Problem → RoomModel → List ℕ → ℕ → List ℕ → DeskState → DeskState → PartEnd → Type 0
-PartsTo f room start budget proof old new (ends.Stopped stopped) = Unstarted f start old new stopped ⊎ PartUnanswered f room start old new stopped
-PartsTo f room start budget proof old new (ends.Sent is_closed) = (p : Parted) × (is_closed ≡ p.is_closed) × SendsParted {E = Unit} f room start budget proof old new p (Ok tt)
-PartsTo f room start budget proof old new ends.WriteFailed = (p : Parted) × SendsParted {E = Unit} f room start budget proof old new p (Err tt)
+abbrev pub PartsTo : Problem → RoomModel → List ℕ → ℕ → List ℕ → DeskState → DeskState → Ending Bool → Type 0
+PartsTo f room start budget proof old new end = EndsBy (PartingStops f room start) (SendsParted f room start budget proof) old new end

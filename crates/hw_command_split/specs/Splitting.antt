@@ -14,9 +14,8 @@ use Rattle.hw_split_text.specs.declared.node.Node.{Node}
 use Rattle.hw_split_text.specs.Splits.{IsSplit, split_parts}
 use Rattle.hw_split_text.specs.Written.{written_split}
 use Rattle.hw_subject.specs.Meanings.{judged}
-use Rattle.hw_subject.specs.Shown.{Refused}
+use Rattle.hw_subject.specs.Shown.{Refused, Starts}
 use Rattle.hw_subject.specs.Subjects.{Subject}
-use Rattle.hw_command_search.specs.Resumes.{Starts}
 use Rattle.hw_command_split.specs.MadeSplits.{open_best}
 
 -- what is read, what the certificate shows, and a split of the judged problem of at most this many parts, of one where that leaves nothing open

@@ -7,8 +7,7 @@ ghost use Rattle.hw_desk.specs.declared.desk.Feed.TheVariants.{Certificate};
 ghost use Rattle.hw_command_split.specs.Certs.{CertAnswer, CertsAnswer, EndsFirst, ReadsCerts, lines_in, moved_stop, stop_of_read};
 
 use hw_cert::{Line, Version};
-use hw_command::{CertOutcome, CertStop, ReadCert, read_cert};
-use hw_command_search::shows_nothing;
+use hw_command::{CertOutcome, CertStop, ReadCert, read_cert, shows_nothing};
 use hw_desk::{CalmDesk, Desk, Feed, NamedBytes, ReadStop, read_whole};
 use hw_flat::{Flat, NoMemory};
 use std::alloc::Global;
@@ -116,8 +115,8 @@ fn check_one(
     let lines = Vec::new(alloc);
     let ReadCert {
         outcome,
-        bound: _,
         kept: lines,
+        ..
     } = match read_cert(alloc, &mut desk, flat, NAME, Version::Three, lines) {
         Ok(read) => read,
         Err(stop) => return Err(Err(stop)),

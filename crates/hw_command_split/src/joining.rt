@@ -17,25 +17,15 @@ ghost use Rattle.hw_command_split.specs.Joining.{join_task};
 use crate::certificates::read_certs;
 use crate::split_input::read_split_input;
 use hw_cert_join::{Joined, join};
-use hw_command::{CertOutcome, CertStop, Status, check_report, finish, status_of};
-use hw_command_search::{send_third, stop_outcome};
+use hw_command::{
+    CertOutcome, Ending, Status, check_report, finish, send_third, status_of, stop_outcome,
+};
 use hw_desk::Desk;
 use hw_flat::Flat;
 use hw_report::{Names, Report, print_report};
 use hw_split_text::Split;
 use hw_subject::{Subject, read_subject};
 use std::alloc::Global;
-
-/// What comes of certificates that are to be joined.
-#[derive(Drop)]
-enum JoinEnd {
-    /// A line isn't taken, or no answer was found, and Proof wasn't made.
-    Stopped(Result<CertOutcome, CertStop>),
-    /// What was sent to Proof.
-    Sent(Joined),
-    /// A make or a write of Proof failed.
-    WriteFailed,
-}
 
 /// Reads the subject, a split of its problem, and the certificates of its parts, one after another in
 /// one input. Joins them, sends all lines to Proof, and reports what they show, and the first part that
@@ -61,13 +51,13 @@ pub fn join_subject<D: Desk>(
         Err(report) => return finish(desk, &report),
     };
     match join_to(alloc, desk, flat, &split, certs, proof) {
-        JoinEnd::Stopped(stopped) => {
+        Ending::Stopped(stopped) => {
             finish(desk, &check_report(stopped, None, None, given.names()))
         }
-        JoinEnd::Sent(joined) => {
+        Ending::Sent(joined) => {
             finish_joined(desk, &joined, given.repaired_ships(), given.names())
         }
-        JoinEnd::WriteFailed => Status::WriteFault,
+        Ending::WriteFailed => Status::WriteFault,
     }
 }
 
@@ -80,7 +70,7 @@ fn join_to<D: Desk>(
     split: &Split,
     certs: &str,
     proof: &str,
-) -> JoinEnd
+) -> Ending<Joined>
     requires split { IsSplit (shape_of flat.now) split.now }
     requires unread { ((D.state desk.old).feeds Certificate).begun ≡ false }
     requires unmade { ((D.state desk.old).trays Proof).made ≡ false }
@@ -88,15 +78,15 @@ fn join_to<D: Desk>(
 {
     let certs = match read_certs(alloc, desk, flat, certs) {
         Ok(certs) => certs,
-        Err(stopped) => return JoinEnd::Stopped(stopped),
+        Err(stopped) => return Ending::Stopped(stopped),
     };
     let joined = match join(alloc, flat, split, &certs) {
         Ok(joined) => joined,
-        Err(stop) => return JoinEnd::Stopped(stop_outcome(stop)),
+        Err(stop) => return Ending::Stopped(stop_outcome(stop)),
     };
     match send_third(desk, &joined.lines, proof) {
-        Ok(()) => JoinEnd::Sent(joined),
-        Err(_) => JoinEnd::WriteFailed,
+        Ok(()) => Ending::Sent(joined),
+        Err(_) => Ending::WriteFailed,
     }
 }
 

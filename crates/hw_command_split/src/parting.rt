@@ -11,9 +11,7 @@ ghost use Rattle.hw_command_split.specs.Parting.{part_task_of};
 ghost use Rattle.hw_command_split.specs.Parts.{PartsTo};
 
 use crate::split_input::{part_room, read_split_input};
-use hw_cert::Version;
-use hw_command::{CertOutcome, CertStop, ReadCert, Status, check_report, finish, read_cert};
-use hw_command_search::{send_third, shows_nothing, stop_outcome};
+use hw_command::{Ending, Status, check_report, finish, read_start, send_third, stop_outcome};
 use hw_desk::Desk;
 use hw_flat::{Flat, Room};
 use hw_price_adviser::PricingAdviser;
@@ -31,17 +29,6 @@ pub struct PartWords<'w> {
     pub number: u32,
     pub start: &'w str,
     pub proof: &'w str,
-}
-
-/// What comes of a certificate from which a search within a part is to go on.
-#[derive(Clone, Copy)]
-enum PartEnd {
-    /// Its lines aren't all taken, or no answer was found, and Proof wasn't made.
-    Stopped(Result<CertOutcome, CertStop>),
-    /// Whether the lines that were sent to Proof close the part.
-    Sent { is_closed: bool },
-    /// A make or a write of Proof failed.
-    WriteFailed,
 }
 
 /// Reads the subject and a split of its problem, checks a certificate of any version, and searches on from
@@ -74,22 +61,22 @@ pub fn part_subject<D: Desk>(
         Err(report) => return finish(desk, &report),
     };
     match part_to(alloc, desk, flat, &room, words, budget) {
-        PartEnd::Stopped(stopped) => {
+        Ending::Stopped(stopped) => {
             finish(desk, &check_report(stopped, None, None, given.names()))
         }
-        PartEnd::Sent { is_closed } => finish(
+        Ending::Sent(is_closed) => finish(
             desk,
             &Report::Part {
                 number: words.number,
                 is_closed,
             },
         ),
-        PartEnd::WriteFailed => Status::WriteFault,
+        Ending::WriteFailed => Status::WriteFault,
     }
 }
 
 /// Begins the certificate under its name and checks it, searches on within a room, and then makes Proof
-/// under its name and sends all lines there.
+/// under its name and sends all lines there. Tells whether they close the part.
 fn part_to<D: Desk>(
     alloc: Global,
     desk: &mut D,
@@ -97,7 +84,7 @@ fn part_to<D: Desk>(
     room: &Room,
     words: PartWords<'_>,
     budget: u32,
-) -> PartEnd
+) -> Ending<bool>
     requires room { RoomFits flat.now room.now }
     requires least { 1 ≤ budget }
     requires most { budget ≤ MOST_BUDGET }
@@ -105,27 +92,17 @@ fn part_to<D: Desk>(
     requires unmade { ((D.state desk.old).trays Proof).made ≡ false }
     ensures { PartsTo flat.now room.now words.entry.start.now budget words.entry.proof.now (D.state desk.old) (D.state desk.new) result }
 {
-    let lines = Vec::new(alloc);
-    let ReadCert {
-        outcome,
-        bound: _,
-        kept: lines,
-    } = match read_cert(alloc, desk, flat, words.start, Version::Three, lines) {
-        Ok(read) => read,
-        Err(stop) => return PartEnd::Stopped(Err(stop)),
+    let start = match read_start(alloc, desk, flat, words.start) {
+        Ok(start) => start,
+        Err(stopped) => return Ending::Stopped(stopped),
     };
-    if shows_nothing(outcome) {
-        return PartEnd::Stopped(Ok(outcome));
-    }
     let adviser = PricingAdviser::new(budget, 0);
-    let parted = match part(alloc, flat, lines, room, budget, adviser) {
+    let parted = match part(alloc, start, room, budget, adviser) {
         Ok(parted) => parted,
-        Err(stop) => return PartEnd::Stopped(stop_outcome(stop)),
+        Err(stop) => return Ending::Stopped(stop_outcome(stop)),
     };
     match send_third(desk, &parted.lines, words.proof) {
-        Ok(()) => PartEnd::Sent {
-            is_closed: parted.is_closed,
-        },
-        Err(_) => PartEnd::WriteFailed,
+        Ok(()) => Ending::Sent(parted.is_closed),
+        Err(_) => Ending::WriteFailed,
     }
 }

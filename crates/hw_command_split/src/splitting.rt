@@ -11,8 +11,9 @@ ghost use Rattle.hw_command_split.specs.MadeSplits.{IsChosenBy, SplitsTo, open_b
 ghost use Rattle.hw_command_split.specs.Splitting.{split_task};
 
 use hw_cert::{Verdict, Version};
-use hw_command::{CertOutcome, CertStop, ReadCert, Status, check_report, finish, read_cert};
-use hw_command_search::shows_nothing;
+use hw_command::{
+    CertOutcome, CertStop, Ending, ReadCert, Status, check_report, finish, read_cert, shows_nothing,
+};
 use hw_desk::{Desk, DeskFailed, Tray, write_all};
 use hw_flat::{Flat, NoMemory};
 use hw_report::Report;
@@ -28,15 +29,11 @@ pub struct SplitWords<'w> {
     pub split: &'w str,
 }
 
-/// What comes of a certificate by which a problem is to be split.
+/// How many parts the split has that was sent, and how many tolls are expected of them.
 #[derive(Clone, Copy)]
-enum SplitEnd {
-    /// Its lines aren't all taken, or memory ran out, and no split was made.
-    Stopped(Result<CertOutcome, CertStop>),
-    /// How many parts the split has that was sent, and how many tolls are expected of them.
-    Sent { parts: u64, tolls: u64 },
-    /// A make or a write of the split failed.
-    WriteFailed,
+struct Sizes {
+    parts: u64,
+    tolls: u64,
 }
 
 /// Reads the subject, checks a certificate of any version, and makes a split of at most `parts` parts (1 to
@@ -60,17 +57,17 @@ pub fn split_subject<D: Desk>(
         Err(report) => return finish(desk, &report),
     };
     match split_to(alloc, desk, given.searched(), words, parts) {
-        SplitEnd::Stopped(stopped) => {
+        Ending::Stopped(stopped) => {
             finish(desk, &check_report(stopped, None, None, given.names()))
         }
-        SplitEnd::Sent { parts, tolls } => finish(
+        Ending::Sent(sizes) => finish(
             desk,
             &Report::Parts {
-                number: parts,
-                tolls,
+                number: sizes.parts,
+                tolls: sizes.tolls,
             },
         ),
-        SplitEnd::WriteFailed => Status::WriteFault,
+        Ending::WriteFailed => Status::WriteFault,
     }
 }
 
@@ -82,33 +79,36 @@ fn split_to<D: Desk>(
     flat: &Flat,
     words: SplitWords<'_>,
     parts: u32,
-) -> SplitEnd
+) -> Ending<Sizes>
     requires least { 1 ≤ parts }
     requires unread { ((D.state desk.old).feeds Certificate).begun ≡ false }
     requires unmade { ((D.state desk.old).trays Proof).made ≡ false }
     ensures { SplitsTo flat.now words.entry.start.now parts words.entry.split.now (D.state desk.old) (D.state desk.new) result }
 {
-    let ReadCert {
-        outcome,
-        bound: _,
-        kept: _,
-    } = match read_cert(alloc, desk, flat, words.start, Version::Three, ()) {
+    let ReadCert { outcome, .. } = match read_cert(
+        alloc,
+        desk,
+        flat,
+        words.start,
+        Version::Three,
+        (),
+    ) {
         Ok(read) => read,
-        Err(stop) => return SplitEnd::Stopped(Err(stop)),
+        Err(stop) => return Ending::Stopped(Err(stop)),
     };
     if shows_nothing(outcome) {
-        return SplitEnd::Stopped(Ok(outcome));
+        return Ending::Stopped(Ok(outcome));
     }
     let chosen = match chosen_by(alloc, flat, outcome, parts) {
         Ok(chosen) => chosen,
-        Err(_) => return SplitEnd::Stopped(Err(CertStop::NoMemory)),
+        Err(_) => return Ending::Stopped(Err(CertStop::NoMemory)),
     };
     match send_split(desk, &chosen.text, words.split) {
-        Ok(()) => SplitEnd::Sent {
+        Ok(()) => Ending::Sent(Sizes {
             parts: count_parts(&chosen.split) as u64,
             tolls: chosen.tolls,
-        },
-        Err(_) => SplitEnd::WriteFailed,
+        }),
+        Err(_) => Ending::WriteFailed,
     }
 }
 

@@ -8,7 +8,7 @@ use Rattle.hw_cert_lines.specs.declared.check.Verdict.{Verdict}
 use Rattle.hw_cert.specs.declared.version.Version.TheVariants.{Three}
 use Rattle.hw_cert.proofs.Answered.{told_map}
 use Rattle.hw_repair.specs.Wishes.{PlanParts, PlanFits}
-use Rattle.hw_report.specs.Reports.{Report, Naming, by_number, checked, refused, whole_text}
+use Rattle.hw_report.specs.Reports.{Report, Naming, by_number, checked, whole_text}
 use Rattle.hw_command.specs.Carries.{Carries}
 use Rattle.hw_command.specs.Certificates.{report_of_check}
 use Rattle.hw_command.specs.Ends.{Ends}

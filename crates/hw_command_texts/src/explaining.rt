@@ -41,6 +41,7 @@ pub fn explain_repair<D: Desk>(
         outcome,
         bound,
         kept,
+        ..
     } = match read_cert(alloc, desk, flat, cert, Version::Three, LastTable(None)) {
         Ok(read) => read,
         Err(stop) => return finish(desk, &check_report(Err(stop), None, None, Names::Flat)),

@@ -39,11 +39,11 @@ told_resumes {f = f} {budget = budget} {start = start} {course = course} {r = r}
     }
 
 -- the start leaves nothing open
-pub nothing_open : {f : Problem} {budget : ℕ} {start : List Line} {course : Course} {r : Resumed} → CourseStands f course → course.lines.items ≡ start → TellsOf course false r → Resumes f budget start r
-nothing_open {start = start} h same t = told_resumes [] h (same ∙ sym (append-nil start)) (omega arith) (λ e. absurd (cc)) t
+pub nothing_open : {f : Problem} {budget : ℕ} {course : Course} {r : Resumed} → CourseStands f course → TellsOf course false r → Resumes f budget course.lines.items r
+nothing_open {course = course} h t = told_resumes [] h (sym (append-nil course.lines.items)) (omega arith) (λ e. absurd (cc)) t
 
 -- the search has ended
-pub went_on : {f : Problem} {budget : ℕ} {start found : List Line} {course after : Course} {r : Resumed} {is_spent : Bool} → CourseStands f course → course.lines.items ≡ start → IsSearched f budget is_spent found → HandsToCourse course after found → TellsOf after is_spent r → Resumes f budget start r
-went_on {f = f} {budget = budget} {start = start} {found = found} {after = after} {is_spent = is_spent} h same s k t =
+pub went_on : {f : Problem} {budget : ℕ} {found : List Line} {course after : Course} {r : Resumed} {is_spent : Bool} → CourseStands f course → IsSearched f budget is_spent found → HandsToCourse course after found → TellsOf after is_spent r → Resumes f budget course.lines.items r
+went_on {f = f} {budget = budget} {found = found} {after = after} {is_spent = is_spent} h s k t =
     let few : length (lemmas_of k.more) ≤ budget = omega (arith, k.lemmas, s.few) in
-    told_resumes k.more (subst (λ (g : Problem). CourseStands g after) h.problem k.adds.stands) (k.adds.parts ∙ ap (λ (ls : List Line). ls ++ k.more) same) few (λ e. (k.lemmas ∙ (s.spent e).0, (s.spent e).1)) t
+    told_resumes k.more (subst (λ (g : Problem). CourseStands g after) h.problem k.adds.stands) k.adds.parts few (λ e. (k.lemmas ∙ (s.spent e).0, (s.spent e).1)) t

@@ -30,9 +30,9 @@ goes_on_from {f = f} more h same parts =
     }
 
 -- the start closes the part
-pub start_closes : {f : Problem} {budget : ℕ} {start : List Line} {room : RoomModel} {course : Course} {p : Parted} → CourseStands f course → course.lines.items ≡ start → p.lines.items ≡ course.lines.items → p.is_closed ≡ true → closes_room room course.lines.items ≡ true → PartGoesOn f budget start room p
-start_closes {start = start} {room = room} h same lines is closes = record {
-  goes_on = goes_on_from [] h lines (same ∙ sym (append-nil start));
+pub start_closes : {f : Problem} {budget : ℕ} {room : RoomModel} {course : Course} {p : Parted} → CourseStands f course → p.lines.items ≡ course.lines.items → p.is_closed ≡ true → closes_room room course.lines.items ≡ true → PartGoesOn f budget course.lines.items room p
+start_closes {room = room} {course = course} h lines is closes = record {
+  goes_on = goes_on_from [] h lines (sym (append-nil course.lines.items));
   few = omega arith;
   closed = is ∙ sym closes ∙ ap (closes_room room) (sym lines);
   spent = λ e. absurd (cc);
@@ -40,9 +40,9 @@ start_closes {start = start} {room = room} h same lines is closes = record {
   idle = λ e. refl;
 }
 
--- whether the start closes the part, by what its course says
-pub start_is : (room : RoomModel) (start taken : List Line) (course : Course) (is_closed value : Bool) → is_closed ≡ closes_room room taken → taken ≡ course.lines.items → course.lines.items ≡ start → is_closed ≡ value → closes_room room start ≡ value
-start_is room start taken course is_closed value says is same e = sym (ap (closes_room room) (is ∙ same)) ∙ sym says ∙ e
+-- whether the start closes the part, by what was read of it
+pub start_is : (room : RoomModel) (taken all : List Line) (is_closed value : Bool) → is_closed ≡ closes_room room taken → taken ≡ all → is_closed ≡ value → closes_room room all ≡ value
+start_is room taken all is_closed value says is e = sym (ap (closes_room room) is) ∙ sym says ∙ e
 
 -- a line was refused, or memory ran out
 stops_in : (f : Problem) (start : List Line) (room : RoomModel) (stop : CourseStop) → closes_room room start ≡ false → CourseStopsFor f start stop → PartStopsFor f start room stop
@@ -50,12 +50,14 @@ stops_in f start room (stops.Refused number cause) unclosed h = record { unclose
 stops_in f start room stops.NoMemory unclosed h = tt
 
 -- the same of a line of the search
-pub search_stops : {f : Problem} {start : List Line} {course : Course} (room : RoomModel) (stop : CourseStop) → CourseStands f course → course.lines.items ≡ start → closes_room room start ≡ false → CourseStopsFor course.flat.now course.lines.items stop → PartStopsFor f start room stop
-search_stops {f = f} {start = start} {course = course} room stop h same unclosed k = stops_in f start room stop unclosed (stops_on f course.flat.now start course.lines.items [] stop h.problem (same ∙ sym (append-nil start)) k)
+pub search_stops : {f : Problem} {course : Course} (room : RoomModel) (stop : CourseStop) → CourseStands f course → closes_room room course.lines.items ≡ false → CourseStopsFor course.flat.now course.lines.items stop → PartStopsFor f course.lines.items room stop
+search_stops {f = f} {course = course} room stop h unclosed k =
+    let start = course.lines.items in
+    stops_in f start room stop unclosed (stops_on f course.flat.now start start [] stop h.problem (sym (append-nil start)) k)
 
 -- the same of a line that closes the part
-pub closing_stops : {f : Problem} {start found : List Line} {course after : Course} (room : RoomModel) (stop : CourseStop) → CourseStands f course → course.lines.items ≡ start → closes_room room start ≡ false → HandsToCourse course after found → CourseStopsFor after.flat.now after.lines.items stop → PartStopsFor f start room stop
-closing_stops {f = f} {start = start} {after = after} room stop h same unclosed k s = stops_in f start room stop unclosed (stops_on f after.flat.now start after.lines.items k.more stop (k.adds.stands.problem ∙ h.problem) (k.adds.parts ∙ ap (λ (ls : List Line). ls ++ k.more) same) s)
+pub closing_stops : {f : Problem} {found : List Line} {course after : Course} (room : RoomModel) (stop : CourseStop) → CourseStands f course → closes_room room course.lines.items ≡ false → HandsToCourse course after found → CourseStopsFor after.flat.now after.lines.items stop → PartStopsFor f course.lines.items room stop
+closing_stops {f = f} {course = course} {after = after} room stop h unclosed k s = stops_in f course.lines.items room stop unclosed (stops_on f after.flat.now course.lines.items after.lines.items k.more stop (k.adds.stands.problem ∙ h.problem) k.adds.parts s)
 
 -- what the search found, and lines that close the part, were taken
 last_stands : {f : Problem} {found : List Line} {course after last : Course} → CourseStands f course → HandsToCourse course after found → AddsClosing after last → CourseStands f last
@@ -67,9 +69,10 @@ pub last_fit : {f : Problem} {found : List Line} {course after last : Course} (a
 last_fit {f = f} all h k c is = subst (λ (ls : List Line). All (LineFits f) ls) (sym is) (whole_course (last_stands h k c)).fit
 
 -- the search has ended
-pub went_on_in : {f : Problem} {budget : ℕ} {start found : List Line} {room : RoomModel} {course after last : Course} {p : Parted} {is_spent : Bool} → CourseStands f course → course.lines.items ≡ start → closes_room room start ≡ false → IsSearched f budget is_spent found → HandsToCourse course after found → AddsClosing after last → p.lines.items ≡ last.lines.items → p.is_closed ≡ closes_room room last.lines.items → (p.is_closed ≡ false → is_spent ≡ true) → PartGoesOn f budget start room p
-went_on_in {f = f} {budget = budget} {start = start} {found = found} {room = room} {course = course} {after = after} {last = last} h same unclosed s k c lines closes spent =
-    let parts : last.lines.items ≡ start ++ (k.more ++ c.more) = c.adds.parts ∙ ap (λ (ls : List Line). ls ++ c.more) (k.adds.parts ∙ ap (λ (ls : List Line). ls ++ k.more) same) ∙ append_assoc start k.more c.more in
+pub went_on_in : {f : Problem} {budget : ℕ} {found : List Line} {room : RoomModel} {course after last : Course} {p : Parted} {is_spent : Bool} → CourseStands f course → closes_room room course.lines.items ≡ false → IsSearched f budget is_spent found → HandsToCourse course after found → AddsClosing after last → p.lines.items ≡ last.lines.items → p.is_closed ≡ closes_room room last.lines.items → (p.is_closed ≡ false → is_spent ≡ true) → PartGoesOn f budget course.lines.items room p
+went_on_in {f = f} {budget = budget} {found = found} {room = room} {course = course} {after = after} {last = last} h unclosed s k c lines closes spent =
+    let start = course.lines.items in
+    let parts : last.lines.items ≡ start ++ (k.more ++ c.more) = c.adds.parts ∙ ap (λ (ls : List Line). ls ++ c.more) k.adds.parts ∙ append_assoc start k.more c.more in
     let count = lemmas_on k.more c.more in
     record {
       goes_on = goes_on_from (k.more ++ c.more) (last_stands h k c) lines parts;

@@ -1,7 +1,6 @@
 //! A search within a part of a problem, from a start on.
 
-ghost use Rattle.std.specs.Prelude.{◌≡◌, ◌≤◌, All};
-ghost use Rattle.hw_cert_lines.specs.Valid.{LineFits, Valid};
+ghost use Rattle.std.specs.Prelude.{◌≡◌, ◌≤◌};
 ghost use Rattle.hw_model.specs.Rooms.{RoomFits};
 ghost use Rattle.hw_cert_course.specs.Courses.{CourseStands};
 ghost use Rattle.hw_search_resumed.specs.Parts.{ClosesCourse, WithinPartMeets};
@@ -11,7 +10,7 @@ use crate::reminder::Reminder;
 use crate::resumed::Parted;
 use crate::resuming::{counted, search};
 use hw_cert_closes::{closing_lines, is_room_closed};
-use hw_cert_course::{Course, CourseStop, IN_PLACE, begun, hand_all, last_table};
+use hw_cert_course::{Course, CourseStop, IN_PLACE, hand_all, last_table};
 use hw_cert_lines::Line;
 use hw_flat::{Flat, Room};
 use hw_search_advice::Adviser;
@@ -23,31 +22,29 @@ use std::alloc::Global;
 /// the whole problem. Where the start closes the room there is no search.
 pub fn part<A: Adviser + Drop>(
     alloc: Global,
-    flat: &Flat,
-    start: Vec<Line>,
+    start: Course<'_>,
     room: &Room,
     budget: u32,
     adviser: A,
 ) -> Result<Parted, CourseStop>
-    requires fit { All (LineFits flat.now) start.items }
-    requires valid { Valid flat.now start.items }
-    requires room { RoomFits flat.now room.now }
+    requires stands { CourseStands start.flat.now start }
+    requires room { RoomFits start.flat.now room.now }
     requires least { 1 ≤ budget }
     requires most { budget ≤ MOST_BUDGET }
-    ensures { WithinPartMeets flat.now budget start.items room.now result }
+    ensures { WithinPartMeets start.entry.flat.now budget start.entry.lines.items room.now result }
 {
-    let by = counted(&start);
-    let course = begun(alloc, flat, start)?;
-    if is_room_closed(flat, &course.lines, room) {
+    let flat = start.flat;
+    if is_room_closed(flat, &start.lines, room) {
         return Ok(Parted {
-            lines: course.lines,
+            lines: start.lines,
             is_closed: true,
         });
     }
-    let table = last_table(alloc, &course.lines)?;
+    let by = counted(&start.lines);
+    let table = last_table(alloc, &start.lines)?;
     let adviser = Confined::new(room.copy(alloc)?, Reminder::new(table, adviser));
     let (is_spent, found) = search(alloc, flat, budget, adviser);
-    let course = hand_all(alloc, course, by, &found)?;
+    let course = hand_all(alloc, start, by, &found)?;
     let course = close(alloc, course, room)?;
     let is_closed = is_room_closed(flat, &course.lines, room);
     if !is_closed && !is_spent {

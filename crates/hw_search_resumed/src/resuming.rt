@@ -1,8 +1,7 @@
 //! A search that goes on from a start.
 
-ghost use Rattle.std.specs.Prelude.{◌≡◌, ◌-◌, ◌^◌, ◌≤◌, ◌∷◌, [], All, IfOk, length, min};
+ghost use Rattle.std.specs.Prelude.{◌≡◌, ◌-◌, ◌^◌, ◌≤◌, ◌∷◌, [], IfOk, length, min};
 ghost use Rattle.hw_cert_lines.specs.Tolled.{tolls_of};
-ghost use Rattle.hw_cert_lines.specs.Valid.{LineFits, Valid};
 ghost use Rattle.hw_cert_course.specs.Courses.{CourseStands};
 ghost use Rattle.hw_search_resumed.specs.Searched.{IsSearched, RaisesPast, TellsOf};
 ghost use Rattle.hw_search_resumed.specs.Going.{ResumeMeets};
@@ -11,7 +10,7 @@ use crate::reminder::Reminder;
 use crate::resumed::Resumed;
 use hw_cert::MemoryLog;
 use hw_cert_closes::count_clauses;
-use hw_cert_course::{Course, CourseStop, Raise, begun, hand_all, last_table};
+use hw_cert_course::{Course, CourseStop, Raise, hand_all, last_table};
 use hw_cert_lines::Line;
 use hw_flat::{Flat, NoMemory};
 use hw_search::Solved;
@@ -20,29 +19,27 @@ use hw_search_advised::prove;
 use hw_search_laws::MOST_BUDGET;
 use std::alloc::Global;
 
-/// Searches on from the lines of a start until as many new lemmas are found as the budget says, with an
-/// adviser. Where the start leaves nothing open there is no search.
+/// Searches on from the lines of a start, whose checker goes on with the lines that are found, until as
+/// many new lemmas are found as the budget says, with an adviser. Where the start leaves nothing open
+/// there is no search.
 pub fn resume<A: Adviser + Drop>(
     alloc: Global,
-    flat: &Flat,
-    start: Vec<Line>,
+    start: Course<'_>,
     budget: u32,
     adviser: A,
 ) -> Result<Resumed, CourseStop>
-    requires fit { All (LineFits flat.now) start.items }
-    requires valid { Valid flat.now start.items }
+    requires stands { CourseStands start.flat.now start }
     requires least { 1 ≤ budget }
     requires most { budget ≤ MOST_BUDGET }
-    ensures { ResumeMeets flat.now budget start.items result }
+    ensures { ResumeMeets start.entry.flat.now budget start.entry.lines.items result }
 {
-    let by = counted(&start);
-    let course = begun(alloc, flat, start)?;
-    if !course.is_open() {
-        return Ok(told(alloc, course, false)?);
+    if !start.is_open() {
+        return Ok(told(alloc, start, false)?);
     }
-    let table = last_table(alloc, &course.lines)?;
-    let (is_spent, found) = search(alloc, flat, budget, Reminder::new(table, adviser));
-    let course = hand_all(alloc, course, by, &found)?;
+    let by = counted(&start.lines);
+    let table = last_table(alloc, &start.lines)?;
+    let (is_spent, found) = search(alloc, start.flat, budget, Reminder::new(table, adviser));
+    let course = hand_all(alloc, start, by, &found)?;
     Ok(told(alloc, course, is_spent)?)
 }
 

@@ -57,11 +57,11 @@ judged_lines s {Kept = Kept} {most = most} {cert = cert} {y = y} {z = z} {read =
     let own = subst (λ (f : Problem). ReadsCert most Kept f cert y z (Ok read)) h.searched m in
     subst (λ (told : Option (List ℕ)). ReadsLines most Kept (judged s h.value) told (cert_outcome_to most (judged s h.value)) (cert_stream_to most (shape_of (judged s h.value))) read) (ap (λ held. held cert) h.entered.begins.held) own.reads.1
 
--- ---- a certificate whose last timetable is kept
-
 -- all inputs were begun
-pub all_entered : (topic : Topic) {cert : List ℕ} {x y z : DeskState} {given : Given} {result : Result (ReadCert LastTable) CertStop} {f : Problem} → ReadsSubject (topic_subject topic) x y given → ReadsCert Three KeepsTable f cert y z result → Entered ((topic_subject topic).inputs ++ named_feed Certificate cert ∷ []) x z
+pub all_entered : (topic : Topic) {K : Type 0} {Kept : K → List Line → Type 0} {most : Version} {cert : List ℕ} {x y z : DeskState} {given : Given} {result : Result (ReadCert K) CertStop} {f : Problem} → ReadsSubject (topic_subject topic) x y given → ReadsCert most Kept f cert y z result → Entered ((topic_subject topic).inputs ++ named_feed Certificate cert ∷ []) x z
 all_entered topic h k = entered_on (topic_subject topic).inputs h.entered k.enters (certless topic).unread
+
+-- ---- a certificate whose last timetable is kept
 
 -- what was read of it before this outcome
 keeps : (topic : Topic) {cert : List ℕ} {x y z : DeskState} {given : Given} {read : ReadCert LastTable} (o : CertOutcome) → read.outcome ≡ o → (h : ReadsSubject (topic_subject topic) x y given) → (k : ReadsCert Three KeepsTable (searched_in given.flat given.repair) cert y z (Ok read)) → ReadsOf (topic_subject topic) h.value Three (x.held cert) (judged_lines (topic_subject topic) h k).lines o

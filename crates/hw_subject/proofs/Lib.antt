@@ -12,3 +12,4 @@ pub mod Planned
 pub mod Decided
 pub mod SameLines
 pub mod Reports
+pub mod Started

@@ -7,6 +7,7 @@ use Rattle.hw_cert_lines.specs.Lines.{last_table}
 use Rattle.hw_cert_lines.specs.Tolled.{bound_of}
 use Rattle.hw_cert_lines.specs.Valid.{verdict, LineFits, Valid}
 use Rattle.hw_cert.specs.declared.version.Version.{Version}
+use Rattle.hw_cert.specs.declared.version.Version.TheVariants.{Three}
 use Rattle.hw_cert.specs.Laws.{has_form}
 use Rattle.hw_cert.specs.Stream.{cert_stream_to}
 use Rattle.hw_command.specs.Certificates.{cert_outcome_to}
@@ -35,3 +36,12 @@ pub record Refused (s : Subject) (most : Version) (cert : List ℕ) (held : List
   pub value : s.Value
   pub reads : s.Reads held value
   pub outcome : IfSome (held cert) (λ bs. o ≡ cert_outcome_to most (judged s value) bs)
+
+-- what is read, and what the certificate shows of it
+pub record Starts (s : Subject) (cert : List ℕ) (held : List ℕ → Option (List ℕ)) : Type 0 where
+  pub value : s.Value
+  pub reads : s.Reads held value
+  pub shows : Verdict
+  pub bound : Option ℕ
+  pub table : Option (List ℕ)
+  pub shown : Shown s value Three (held cert) shows bound table

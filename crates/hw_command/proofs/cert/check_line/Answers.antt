@@ -36,7 +36,7 @@ returns-in-Ok-Line-clause-steps g c = λ before follows.
     let t = rw c.in-Ok-Line.field-0-is at c.in-Ok-Line.ensures in
     let stop = c.in-Err-borrowed_line.stop in
     let count = line_count c.number-number.result t.line c.number-number.ensures.value in
-    rw c.refused_line.ensures (line_refused x y c.args.reader c.in-Ok-Line.reader c.in-Ok-Line.line c.args.checker.problem before _ stop c.requires.ready.shape t.line count (c.in-Err-borrowed_line.ensures.followed before follows) t.next (t.kept (λ e. absurd (cc))))
+    rw c.refused.ensures (rw c.refused_line.ensures (line_refused x y c.args.reader c.in-Ok-Line.reader c.in-Ok-Line.line c.args.checker.problem before _ stop c.requires.ready.shape t.line count (c.in-Err-borrowed_line.ensures.followed before follows) t.next (t.kept (λ e. absurd (cc)))))
 
 pub returns-clause-steps : goal.returns-clause-steps
-returns-clause-steps g c = λ before follows. rw c.no_line.ensures (none_had (g.D.Desk.state c.args.desk.now) (g.D.Desk.state c.next.new.desk) c.args.reader c.args.checker.problem before c.in-Err.stop c.requires.ready.shape c.in-Err.ensures)
+returns-clause-steps g c = λ before follows. rw c.refused-in-Err.ensures (rw c.no_line.ensures (none_had (g.D.Desk.state c.args.desk.now) (g.D.Desk.state c.next.new.desk) c.args.reader c.args.checker.problem before c.in-Err.stop c.requires.ready.shape c.in-Err.ensures))

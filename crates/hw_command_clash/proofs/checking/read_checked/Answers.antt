@@ -18,8 +18,8 @@ returns-in-Err-read_part-clause-stops g c = check_clash_stops (topic_seen c.args
 pub read_cert-requires : goal.read_cert-requires
 read_cert-requires g c = record { unread = unread_cert (topic_seen c.args.subject) c.requires.fresh c.in-Ok.ensures.given (rw c.clash_feed-feed.ensures at (rw c.wished_of-wished.ensures at c.in-Ok-read_part.ensures.part)); none = tt }
 
-pub returns-in-Ok-read_cert-clause-checked : goal.returns-in-Ok-read_cert-clause-checked
-returns-in-Ok-read_cert-clause-checked g c = check_meets (topic_seen c.args.subject) c.in-Ok.ensures.given (rw c.clash_feed-feed.ensures at (rw c.wished_of-wished.ensures at c.in-Ok-read_part.ensures.part)) c.in-Ok-read_cert.ensures
+pub returns-clause-checked : goal.returns-clause-checked
+returns-clause-checked g c = check_meets (topic_seen c.args.subject) c.in-Ok.ensures.given (rw c.clash_feed-feed.ensures at (rw c.wished_of-wished.ensures at c.in-Ok-read_part.ensures.part)) c.in-Ok-read_cert.ensures
 
-pub returns-clause-stops : goal.returns-clause-stops
-returns-clause-stops g c = rw c.check_report.ensures.value (check_breaks (topic_seen c.args.subject) c.in-Err-read_cert.stop c.in-Ok.ensures.given (rw c.clash_feed-feed.ensures at (rw c.wished_of-wished.ensures at c.in-Ok-read_part.ensures.part)) c.in-Err-read_cert.ensures)
+pub returns-in-Err-read_cert-clause-stops : goal.returns-in-Err-read_cert-clause-stops
+returns-in-Err-read_cert-clause-stops g c = rw c.check_report.ensures.value (check_breaks (topic_seen c.args.subject) c.in-Err-read_cert.stop c.in-Ok.ensures.given (rw c.clash_feed-feed.ensures at (rw c.wished_of-wished.ensures at c.in-Ok-read_part.ensures.part)) c.in-Err-read_cert.ensures)

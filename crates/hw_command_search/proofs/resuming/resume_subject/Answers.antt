@@ -20,16 +20,16 @@ returns-in-Stopped g c =
     stopped_carries (topic_seen c.args.subject) z c.in-Stopped.stopped c.in-Ok.ensures.given (rw c.searched.ensures at c.in-Stopped.ensures) (subst (λ (r : Report). Ends (r ∷ []) z end c.finish-in-Stopped.result) told c.finish-in-Stopped.ensures)
 
 pub found_report-requires : goal.found_report-requires
-found_report-requires g c = resumed_slots (topic_seen c.args.subject) c.in-Found.found c.in-Ok.ensures.given (rw c.searched.ensures at c.in-Found.ensures)
+found_report-requires g c = resumed_slots (topic_seen c.args.subject) c.in-Sent.found c.in-Ok.ensures.given (rw c.searched.ensures at c.in-Sent.ensures)
 
-pub finish-requires-in-Found : goal.finish-requires-in-Found
-finish-requires-in-Found g c = subst (λ (r : Report). CanPrint r) (sym c.found_report.ensures) (can_print (topic_seen c.args.subject) c.in-Found.found c.in-Ok.ensures.given (rw c.searched.ensures at c.in-Found.ensures))
+pub finish-requires-in-Sent : goal.finish-requires-in-Sent
+finish-requires-in-Sent g c = subst (λ (r : Report). CanPrint r) (sym c.found_report.ensures) (can_print (topic_seen c.args.subject) c.in-Sent.found c.in-Ok.ensures.given (rw c.searched.ensures at c.in-Sent.ensures))
 
-pub returns-in-Found : goal.returns-in-Found
-returns-in-Found g c =
+pub returns-in-Sent : goal.returns-in-Sent
+returns-in-Sent g c =
     let z = g.D.Desk.state c.resume_to.new.desk in
-    let end = g.D.Desk.state c.finish-in-Found.new.desk in
-    found_carries (topic_seen c.args.subject) z c.in-Found.found c.in-Ok.ensures.given (rw c.searched.ensures at c.in-Found.ensures) (subst (λ (r : Report). Ends (r ∷ []) z end c.finish-in-Found.result) c.found_report.ensures c.finish-in-Found.ensures)
+    let end = g.D.Desk.state c.finish-in-Sent.new.desk in
+    found_carries (topic_seen c.args.subject) z c.in-Sent.found c.in-Ok.ensures.given (rw c.searched.ensures at c.in-Sent.ensures) (subst (λ (r : Report). Ends (r ∷ []) z end c.finish-in-Sent.result) c.found_report.ensures c.finish-in-Sent.ensures)
 
 pub returns : goal.returns
 returns g c = broke_carries (topic_seen c.args.subject) (g.D.Desk.state c.resume_to.new.desk) c.in-Ok.ensures.given (rw c.searched.ensures at c.in-WriteFailed.ensures)

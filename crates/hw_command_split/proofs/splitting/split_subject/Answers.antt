@@ -19,7 +19,7 @@ returns-in-Stopped g c =
     stopped_carries (topic_seen c.args.subject) z c.in-Stopped.stopped c.in-Ok.ensures.given (rw c.searched.ensures at c.in-Stopped.ensures) (subst (λ (r : Report). Ends (r ∷ []) z end c.finish-in-Stopped.result) told c.finish-in-Stopped.ensures)
 
 pub returns-in-Sent : goal.returns-in-Sent
-returns-in-Sent g c = sent_carries (topic_seen c.args.subject) (g.D.Desk.state c.split_to.new.desk) c.in-Sent.parts c.in-Sent.tolls c.in-Ok.ensures.given (rw c.searched.ensures at c.in-Sent.ensures) c.finish-in-Sent.ensures
+returns-in-Sent g c = sent_carries (topic_seen c.args.subject) (g.D.Desk.state c.split_to.new.desk) c.in-Sent.sizes c.in-Ok.ensures.given (rw c.searched.ensures at c.in-Sent.ensures) c.finish-in-Sent.ensures
 
 pub returns : goal.returns
 returns g c = broke_carries (topic_seen c.args.subject) (g.D.Desk.state c.split_to.new.desk) c.in-Ok.ensures.given (rw c.searched.ensures at c.in-WriteFailed.ensures)

@@ -1,6 +1,6 @@
 use Rattle.std.proofs.Common.{◌<◌, length, sym, arith}
-use Rattle.hw_command_search.proofs.Thirds.{line_failed}
-use Rattle.hw_command_search.proofs.third.send_all.Goals as goal
+use Rattle.hw_command.proofs.Thirds.{line_failed}
+use Rattle.hw_command.proofs.third.send_all.Goals as goal
 
 pub returns-then-is_err : goal.returns-then-is_err
 returns-then-is_err g c =

@@ -18,8 +18,8 @@ use Rattle.hw_cert.specs.Told.{header_line_of, is_told_under, log_under}
 use Rattle.hw_cert.proofs.Answered.{told_map}
 use Rattle.hw_command.specs.Sending.{IsCutOf, SendsTo}
 use Rattle.hw_command.proofs.Sendings.{sends_to}
-use Rattle.hw_command_search.specs.Third.{SendsLines, as_failed}
-use Rattle.hw_command_search.proofs.Ending.{by_lines, outside_only, whole_text}
+use Rattle.hw_command.specs.Third.{SendsLines, as_failed}
+use Rattle.hw_command.proofs.OnProof.{by_lines, outside_only, whole_text}
 
 -- ---- texts
 
