@@ -132,3 +132,21 @@ def test_no_ship_is_left_out_of_a_day_under_way(client: Any, runs: Runs, store: 
     assert said.status_code == 400 and "no ship can be left out" in said.json["error"]
     (fleet,) = client.post(f"/api/run/{repair}/whatif", json={"changes": ["fleet=+1"]}, headers=token).json["runs"]
     assert runs.wait(fleet)["plan"] == runs.get(repair)["plan"] and runs.get(fleet)["verdict"].startswith("optimal ")
+
+
+BASES = ["", "5", "null", "[]", "{", "[" * 100000, '{"a":' * 50000, '{"waypoints": 5}', '{"waypoints": [1], "routes": [null]}',
+         '{"start": 5, "slot_minutes": 0, "waypoints": [{"name": 5, "depth": null}]}', '{"slots": 1e400}', '{"tides": 5, "dates": 7}']
+
+
+@pytest.mark.parametrize("base", BASES, ids=range(len(BASES)))
+@pytest.mark.parametrize("whole", [False, True])
+def test_a_source_that_is_none(client: Any, base: str, whole: bool) -> None:
+    """Whatever a planner writes is kept, and told as faults; a page over it opens."""
+    token = entered(client)
+    number = day(client, token, *example("calls.csv", "calls-port.json", "waters-bar.txt", "waters-berth.txt"))
+    sent = {"whole": whole, "base": base, "columns": ["name", "direction", "x"], "rows": [["a", "outgoing", "1"], ["", "", ""]], "table": None,
+            "lists": [{"waypoint": "Bar", "text": "\x00 not a list", "differences": "=/etc/passwd"}], "dates": "dmy", "origins": [7, -1]}
+    said = client.post(f"/api/day/{number}/draft", json=sent, headers=token)
+    assert said.status_code == 200 and not said.json["good"] and [one for one in said.json["told"] if not one["hint"]]
+    assert client.get(f"/day/{number}").status_code == 200 and client.get(f"/day/{number}/windows").status_code == 200
+    assert client.post(f"/api/day/{number}/plan", json={"budget": 1}, headers=token).status_code == 409

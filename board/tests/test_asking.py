@@ -10,10 +10,12 @@ import sys
 import time
 from xml.etree import ElementTree
 
+import click
 import pytest
 from browser import EXAMPLES, PROGRAM
 from ports import Tw, tw  # noqa: F401
-from tidewise_board.command import init
+from tidewise_board.command import init, windows
+from tidewise_board.command.common import ship_names
 from tidewise_board.core.program import Program, Text
 from tidewise_board.core.reading import timetable_of
 from tidewise_board.core.store import Store
@@ -108,6 +110,19 @@ class TestCheck:
         assert done.status == 0
         assert "hint: tides: the tides end before 15 Mar 23:00, and Albatross out needs them up to 16 Mar 01:00" in done.out
 
+    def test_log(self, tw: Tw, port: str) -> None:
+        with open(os.path.join(port, "log.csv"), "w", encoding="utf-8") as file:
+            file.write("written,who,said\n2027-03-14 04:00,Ann,Curlew in not before 2027-03-14 08:00\n2027-03-14 04:10,Ann,Skua stays\n")
+        done = tw("check", port)
+        assert (done.status, done.out) == (4, "log.csv, row 3, column said: Skua is no ship of this day\n")
+
+    def test_completion(self, port: str) -> None:
+        context = click.Context(windows.command)
+        context.params = {"folder": port}
+        assert ship_names(context, windows.command.params[0], "cu") == ["Curlew in", "Curlew out"]
+        context.params = {"folder": "/"}
+        assert ship_names(context, windows.command.params[0], "cu") == []
+
     def test_refused(self, tw: Tw, tmp_path: object, port: str) -> None:
         done = tw("check", str(tmp_path))
         assert (done.status, done.out) == (4, "")
@@ -138,14 +153,14 @@ class TestWindows:
         done = tw("windows", "Hec", "--in", calls, "--draft", "16,0", "--json")
         assert done.status == 0
         (hector,) = json.loads(done.out)
-        assert hector["load"]["draft"] == 1600
+        assert hector["load"]["draft_m"] == 16.0
         # No slot outside these times allows it, and each within does.
         for time in ("07:10", "07:40", "19:40"):
             drafts = json.loads(tw("windows", "Hector", "--in", calls, "--at", time, "--json").out)[0]["stretches"]
-            assert drafts[0]["greatest"] >= 1600
+            assert drafts[0]["greatest_m"] >= 16.0
         for time in ("06:55", "13:10", "19:25"):
             drafts = json.loads(tw("windows", "Hector", "--in", calls, "--at", time, "--json").out)[0]["stretches"]
-            assert drafts[0]["greatest"] < 1600
+            assert drafts[0]["greatest_m"] < 16.0
         assert hector["load"]["times"] == [{"from": "2027-03-14 07:10", "to": "2027-03-14 07:40"},
                                            {"from": "2027-03-14 19:40", "to": "2027-03-14 19:40"}]
 
@@ -189,7 +204,7 @@ class TestWhy:
         edit(port, "ships.csv", "100,11.00,17.20", "100,17.00,17.20")
         done = tw("why", "--in", port)
         assert done.status == 1
-        assert "Albatross out's own window and water: she can't sail at all: too little water: needs 1700 cm" in done.out
+        assert "Albatross out's own window and water: she can't sail at all: too little water: needs 17.00 m, at most 16.68 m at Bar" in done.out
 
     def test_time(self, tw: Tw, calls: str) -> None:
         done = tw("why", "Hector", "08:30", "--in", calls)
@@ -219,6 +234,19 @@ class TestWhy:
         done = tw("why", "Hector", folder.clock.short(iris), "--in", calls, "--json")
         assert (json.loads(done.out)["plan"], done.err) == (None, "The plan has other ships: `tw plan` makes one of those that are there now.\n")
 
+    def test_on_a_day_under_way(self, tw: Tw, calls: str) -> None:
+        assert tw("plan", calls).status == 0
+        for sentence in ("Iris sailed at 07:40", "close Bar 14:00 to 16:00"):
+            assert tw("log", "--in", calls, "--now", "07:45", sentence).status == 0
+        assert tw("replan", calls, "--now", "07:45").status == 0 and tw("accept", calls).status == 0
+        assert tw("why", "Iris", "10:40", "--in", calls).out == "Iris can't sail at 2027-03-14 10:40: she has sailed at 07:40\n"
+        assert tw("why", "Hector", "07:10", "--in", calls).out == "Hector can't sail at 2027-03-14 07:10: she can't sail before 07:55\n"
+        # At the bar an hour later, when it is closed since.
+        assert tw("why", "Hector", "13:25", "--in", calls).out == "Hector can't sail at 2027-03-14 13:25: closed\n"
+        edit(calls, "port.json", '"depth":1400', '"depth":1410')
+        done = tw("why", "Hector", "13:25", "--in", calls)
+        assert done.err == "The files were changed since plan 2; this is said of the plan's.\n"
+
     @pytest.mark.parametrize("words,cause", [
         (["Skua", "08:00"], "Skua is no ship of this day"), (["Hector"], "a time is missing: tw why SHIP TIME"),
         (["Hector", "12"], "12 is no time, such as 14:05, 15 Mar 02:00, Mon 02:00 or 2027-03-15 02:00")])
@@ -243,8 +271,8 @@ class TestTry:
         done = tw("try", "--in", port, "depth.bar=1410", "fleet=1", "--json")
         answer = json.loads(done.out)
         same, deeper, one = answer["changes"]
-        assert (same["least"], same["most"], deeper["cargo"] - same["cargo"], deeper["least"], deeper["most"]) == (0, 0, 10000, 10000, 10000)
-        assert (one["change"], one["result"], one["cargo"], one["least"]) == ("1 tug", "infeasible", None, None)
+        assert (same["least_t"], same["most_t"], deeper["cargo_t"] - same["cargo_t"], deeper["least_t"], deeper["most_t"]) == (0, 0, 1000, 1000, 1000)
+        assert (one["change"], one["result"], one["cargo_t"], one["least_t"]) == ("1 tug", "infeasible", None, None)
 
     def test_picture(self, tw: Tw, port: str) -> None:
         edit(port, "ships.csv", "Bittern,", "</svg>,")

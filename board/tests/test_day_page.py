@@ -161,6 +161,18 @@ def test_a_json_with_a_fault_keeps_the_form_away(planner: Planner) -> None:
     assert "The JSON has a fault, mend it there" in planner.text("p-port") and not planner.at("plan").is_enabled()
 
 
+def test_a_json_of_other_kinds(planner: Planner) -> None:
+    """A member that is none of a port's leaves the page at work, and is told."""
+    planner.drop("calls.csv", "calls-port.json", "waters-bar.txt", "waters-berth.txt")
+    for base in ('{"routes": [null], "turnaround": null}', "5", "[]", '{"waypoints": 5, "closed": 7, "separation": [1, null]}'):
+        planner.at("t-json").click()
+        planner.driver.execute_script("""const area = document.getElementById('base'); area.value = arguments[0];
+            area.dispatchEvent(new Event('input', {bubbles: true}))""", base)
+        wait(lambda: planner.driver.find_elements(By.CSS_SELECTOR, "#told button:not(.hinted)"))
+        planner.at("t-port").click()
+        assert planner.text("p-port") and not planner.at("plan").is_enabled(), base
+
+
 def test_a_race_of_seeds(planner: Planner, tmp_path: Any) -> None:
     """A day that takes long is searched by several seeds; Stop ends all of them, and the best of them is the plan."""
     paths = []
@@ -173,6 +185,15 @@ def test_a_race_of_seeds(planner: Planner, tmp_path: Any) -> None:
     assert planner.at("race").is_selected()
     planner.at("plan").click()
     wait(lambda: "searches, " in planner.text("state") and "none above" in planner.text("state"))
+    # A page that is loaded anew follows the search that is under way; so does the page of its plan.
+    day = planner.driver.current_url
+    planner.driver.refresh()
+    wait(lambda: planner.at("stop").is_enabled() and "searches, " in planner.text("state"))
+    assert not planner.at("plan").is_enabled()
+    planner.go(f"/day/{day.rsplit('/', 1)[1]}/latest")
+    wait(lambda: planner.text("headline") == "planning" and "not verified yet" in planner.text("meaning"))
+    planner.driver.get(day)
+    wait(lambda: planner.at("stop").is_enabled())
     planner.at("stop").click()
     wait(lambda: "/plan/" in planner.driver.current_url and planner.text("headline").startswith("Not proved best: "))
     number = planner.settled()

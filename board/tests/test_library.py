@@ -3,6 +3,7 @@ from __future__ import annotations
 
 import json
 import os
+import random
 import subprocess
 import sys
 import time
@@ -140,6 +141,13 @@ class TestCalls:
         found = port.instance_of(("ships.csv", f"{head}\n{first}\n"), ("port.json", text_of("port.json")))
         assert found["ships"] == json.loads(text_of("day.json"))["ships"][:1]
 
+    def test_separators(self) -> None:
+        row = "Grace,cape,2027-03-14 07:30,East,9:00,2027-03-14 18:00,1000,1100,1720,3,1:00"
+        same = made(f"{HEAD}\n{row}\n").instance
+        for mark in (";", "\t"):
+            table = f"{HEAD}\n{row}\n".replace(",", mark)
+            assert made(table).instance == made(f"sep={mark}\n# a remark, with commas\n{table}").instance == same
+
     def test_own_columns_of_a_movement(self) -> None:
         head = HEAD.replace("tugs,job", "tugs in,tugs out,job in,job out,route in,route out,may stay")
         found = made(f"{head}\nGrace,cape,,East,9:00,,1000,1100,1720,1,2,3,4,,out,yes\n")
@@ -153,6 +161,16 @@ class TestCalls:
         assert [str(one) for one in found.hints] == [
             "ships.csv, row 4, column arrives: she arrives after the last slot: this call isn't planned",
             "ships.csv, row 5, column sails: she sails after the last slot: that isn't planned"]
+
+    def test_hints(self) -> None:
+        head = HEAD.replace("sails,", "sails by,")
+        rows = ["Ada,cape,2027-03-14 08:00,East,4:00,", "Bob,cape,2027-03-14 06:00,East,4:00,", "Cox,cape,2027-03-14 06:00,West,4:00,2027-03-14 11:00",
+                "Don,cape,2027-03-14 04:00,East,4:00,2027-03-14 20:00", "Eva,cape,2027-03-14 09:40,West,4:00,2027-03-14 14:40"]
+        found = made("\n".join([head, *(f"{row},1000,1100,1720,3,4" for row in rows)]))
+        turns = "she arrives before the ship above her that has East first: turns are in the order of the rows"
+        # Eva is at her berth an hour after she comes, and loads until the slot that begins at 14:40.
+        assert [str(one) for one in found.hints] == ["ships.csv, row 4, column sails by: she can't be loaded by then",
+                                                     f"ships.csv, row 3, column arrives: {turns}", f"ships.csv, row 5, column arrives: {turns}"]
 
     def test_refused(self) -> None:
         def of(*rows: str) -> list[str]:
@@ -226,6 +244,12 @@ class TestClock:
         ("2027-03-15 02:00", None, 1340), ("2027-03-15T02:00", None, 1340), ("Sun 03:00", None, 10040), ("1 Jan 03:40", None, -72 * 1440)])
     def test_minute(self, text: str, after: int | None, minute: int) -> None:
         assert self.CLOCK.minute(text, after) == minute
+
+    def test_order(self) -> None:
+        clock = Clock(self.CLOCK.start, 15, 288, "dmy")
+        assert [clock.minute(text) for text in ("15.03.2027 02:00", "2027-03-15 02:00", "15 Mar 02:00")] == [1340] * 3
+        with pytest.raises(Refused):
+            clock.minute("03/15/2027 02:00")
 
     @pytest.mark.parametrize("text", ["", "soon", "25:00", "30 Feb 02:00", "Xyz 02:00", "15 Mär 02:00", "T" * 100000, "1 2 3 02:00"])
     def test_refused(self, text: str) -> None:
@@ -366,3 +390,24 @@ class TestPage:
         source = days.dropped([("port.json", base), ("ships.csv", ships), self.TIDES[0], ("Bar.txt", self.TIDES[1][1].replace("4.24", "x"))])
         assert [(one.where, one.said) for one in days.make(source, program).told if not one.hint] == [
             ("tide", "Bar, line 3: x is no number of metres")]
+
+
+def test_hostile(tmp_path: object) -> None:
+    """Whatever stands in the files of a folder, it is read or refused."""
+    pieces = [b"-", b"", b"0", b"99999999999999999999", b",", b";", b'"', b"\n", b"T" * 50, b"#", b":", b"24:00", b"\xff", b"\0", b"null", b"{}",
+              b"[]", b"-1", b"1e9", b"NaN", b"\r", b"999:59", b"\t", b"1969-12-31 00:00", b"9999-12-31 23:59", b"0001-01-01 00:00", b"true"]
+    draw, root, told = random.Random(6), folder(tmp_path, log_csv="written,who,said\n2027-03-14 04:00,Ann,Iris stays\n"), set()
+    for _ in range(300):
+        path = os.path.join(root, draw.choice(["port.json", "ships.csv", "log.csv", "tides/Bar.txt"]))
+        with open(path, "rb") as file:
+            old = file.read()
+        begin = draw.randrange(len(old))
+        end = begin + draw.choice([0, 1, 5, 20])
+        with open(path, "wb") as file:
+            file.write(old[:begin] + draw.choice(pieces) + old[end:])
+        looked = look(root, draw.choice([None, None, "2027-03-15", "9999-12-31", "0001-01-01"]))
+        assert looked.folder is None or json.loads(looked.folder.instance)["ships"]
+        told |= {one.file for one in looked.told}
+        with open(path, "wb") as file:
+            file.write(old)
+    assert told >= {"port.json", "ships.csv", "log.csv", "tides/Bar.txt"}

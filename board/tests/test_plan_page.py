@@ -75,6 +75,25 @@ def test_escape_lets_a_dragged_ship_go(planner: Planner) -> None:
     assert planner.settled() == number and "No ship is held." in planner.text("pins") and row.get_attribute("aria-valuenow") == "26"
 
 
+def test_the_focus_stays_on_its_row(planner: Planner) -> None:
+    """A pin by Enter draws the picture anew: the row has the focus again, the readout has the answer, and the arrows go on."""
+    planner.drop("contested.json", "day-tides.csv")
+    planner.plan()
+    before = planner.settled()
+    row = planner.row(7)
+    row.send_keys(Keys.ARROW_RIGHT, Keys.ARROW_RIGHT, Keys.ENTER)
+    wait(lambda: "Heron held at 07:00" in planner.text("pins"))
+    assert planner.settled() != before
+    at = "const one = document.getElementById('picture').shadowRoot.activeElement; return one && [one.dataset.ship, one.getAttribute('aria-valuenow')]"
+    assert planner.driver.execute_script(at) == ["7", "28"] and planner.text("readout").startswith("costs ")
+    planner.driver.switch_to.active_element.send_keys(Keys.ARROW_RIGHT)
+    assert planner.driver.execute_script(at) == ["7", "29"] and planner.text("readout").startswith("Heron, 07:15")
+    # Undo in a field is that of its text.
+    Select(planner.at("change")).select_by_value("fleet")
+    planner.at("value").send_keys("1", Keys.CONTROL, "z")
+    assert "Heron held at 07:00" in planner.text("pins")
+
+
 def test_what_a_closed_window_says(planner: Planner) -> None:
     planner.drop("calls.csv", "calls-port.json", "waters-bar.txt", "waters-berth.txt")
     planner.plan()

@@ -13,6 +13,7 @@ from tidewise_board.core import days, race
 from tidewise_board.core.differences import differences
 from tidewise_board.core.lanes import Stay, lanes
 from tidewise_board.core.loading import loading, to_load, when
+from tidewise_board.core.pins import pinned
 from tidewise_board.core.program import Program
 from tidewise_board.core.reading import Verdict, windows_of
 from tidewise_board.core.runs import ENDED, Inputs, Runs
@@ -85,9 +86,9 @@ def test_lanes_of_a_day(store: Store, runs: Runs, program: Program, calls: Input
     table = table_of(runs, runs.get(planned(runs, calls)))
     slot = {row["name"]: int(row["slot"]) for row in table}
     (lane,) = lanes(program, calls, table, {})
-    assert lane.stays == [Stay("Grace out", slot["Grace in"] + 4, slot["Grace out"], 1, slot["Grace out"])] and lane.clear is None
+    assert lane.stays == [Stay("Grace", slot["Grace in"] + 4, slot["Grace out"], 1, slot["Grace out"])] and lane.clear is None
     named = lanes(program, calls, table, {1: "Quay 2", 0: "Quay 2", 2: "Quay 1"})
-    assert [(one.name, [stay.name for stay in one.stays]) for one in named] == [("Quay 2", ["Grace out"]), ("Quay 1", ["Hector"])]
+    assert [(one.name, [stay.name for stay in one.stays]) for one in named] == [("Quay 2", ["Grace"]), ("Quay 1", ["Hector"])]
     assert lanes(program, calls, [], {})[0].stays == []
 
 
@@ -127,6 +128,26 @@ def test_the_first_to_close_a_day_ends_the_others(runs: Runs, store: Store, cont
     assert race.settle(runs, leader) == winner and race.winner(runs, leader) == winner
     assert [row["id"] for row in store.rows("SELECT id FROM run WHERE kind = 'plan'")] == [winner]
     runs.races.discard(leader)
+
+
+def test_pins_race_too(runs: Runs, store: Store, long: Inputs) -> None:
+    """The run that stands is a pin of the same plan, with the same ships held; the second checker, which takes no repair, isn't asked."""
+    first = runs.begin(1, long, "plan", "hard", 20000)
+    end = time.monotonic() + 60
+    while not ((found := runs.followers.get(first)) and found.best) and time.monotonic() < end:
+        time.sleep(0.05)
+    runs.stop(first)
+    runs.wait(first)
+    plan = store.put(pinned(runs.timetable(first) or [], {0: 25}, None).encode())
+    pin = race.join(runs, lambda: runs.begin(1, Inputs(long.instance, long.tides, plan), "pin", "held", 100000, None, first, {0: 25}))
+    while len(race.members(runs, pin)) < 2 and pin in runs.races and time.monotonic() < end:
+        time.sleep(0.05)
+    race.stop(runs, pin)
+    over(runs, pin)
+    standing = runs.get(race.winner(runs, pin))
+    assert standing["kind"] == "pin" and (standing["base"], standing["plan"], json.loads(standing["pins"])) == (first, plan, {"0": 25})
+    others = [runs.get(one) for one in race.members(runs, pin) if one != standing["id"]]
+    assert others and all(one["kind"] == "race" and one["plan"] == plan and one["second"] is None for one in others)
 
 
 def test_a_race_survives_its_board(store: Store, program: Program, long: Inputs) -> None:
@@ -204,3 +225,50 @@ def test_ships_keep_their_route_and_their_pairs(program: Program) -> None:
     for origins in ([0], ["0"] * 10, [True] * 10):
         with pytest.raises(ValueError):
             days.source_of({**json.loads(source.bytes()), "origins": origins})
+
+
+def ready_made(name: str) -> list[tuple[str, str]]:
+    """The files of a port that the package begins with."""
+    root = os.path.join(os.path.dirname(days.__file__), "..", "library", "ports", name)
+    found = []
+    for folder in (root, os.path.join(root, "tides")):
+        for file in sorted(os.listdir(folder)):
+            if os.path.isfile(os.path.join(folder, file)):
+                with open(os.path.join(folder, file), encoding="utf-8") as opened:
+                    found.append((file, opened.read()))
+    return found
+
+
+def test_a_line_up_with_a_row_for_each_call(store: Store, program: Program, runs: Runs) -> None:
+    """The port that `tw init` begins with, dropped on the page: the same instance and tide as the command's, and berths by their names."""
+    source = days.dropped(ready_made("start"))
+    assert source.columns[:3] == ["name", "class", "arrives"] and [row[0] for row in source.rows][:2] == ["Albatross", "Bittern"]
+    day = inputs(store, program, ready_made("start"))
+    names = [ship["name"] for ship in json.loads(store.get(day.instance))["ships"]]
+    table = table_of(runs, runs.get(planned(runs, day)))
+    named = days.berths_of(source)
+    assert {names[ship]: berth for ship, berth in named.items()}["Bittern in"] == "East"
+    found = {lane.name: [stay.name for stay in lane.stays] for lane in lanes(program, day, table, named)}
+    assert set(found) == {"East", "West"} and found["East"][:2] == ["Albatross out", "Bittern"]
+
+
+def test_a_fault_of_a_call_stands_at_its_row(program: Program) -> None:
+    """Also where the program refuses the second movement of a row, and where a head has another name."""
+    source = days.dropped(ready_made("start"))
+    deep, light = source.columns.index("draft m"), source.columns.index("light m")
+    source.rows[1][deep] = "x"
+    (told,) = [one for one in days.make(source, program).told if not one.hint]
+    assert (told.row, told.column) == (1, "draft m") and "no number of metres" in told.said
+    source.rows[1][deep], source.rows[1][light] = "16.505", "9.00"
+    hints = [one for one in days.make(source, program).told if one.hint and one.where == "ships"]
+    assert any((one.row, one.column) == (1, "draft m") and "rounded" in one.said for one in hints)
+
+
+def test_the_list_that_a_port_names(program: Program) -> None:
+    files = dict(ready_made("start"))
+    port = json.loads(files["port.json"])
+    port["waypoints"][0]["tide"], port["dates"] = "Bar.txt+4m-3cm", "ymd"
+    source = days.dropped([("port.json", json.dumps(port)), ("ships.csv", files["ships.csv"]), ("Bar.txt", files["Bar.txt"])])
+    assert [(one["waypoint"], one["differences"], one["text"] == files["Bar.txt"]) for one in source.lists] == [
+        ("Berth", "+4m-3cm", True), ("Bar", "", True)]
+    assert days.make(source, program).good

@@ -251,6 +251,8 @@ class Refused(unittest.TestCase):
                 ('"fleet":9', '"fleet":9.0', "fleet: 9.0 is no integer"),
                 ('"fleet":9', '"fleet":true', "fleet: true is no integer"),
                 ('"fleet":9', '"fleet":9,"tugs":9', "tugs: there is no such member"),
+                ('"fleet":9', '"fleet":9,"fleet":8', "fleet: this member stands there twice"),
+                ('"depth":1400', '"depth":1400,"depth":1300', "depth: this member stands there twice"),
                 ("03:40", "3h40", 'start: "2027-03-14 3h40" is no time such as 2027-03-14 03:40'),
                 ('["cape","panamax"]', '["cape"]', "separation: there are 2 items, and 1 classes"),
                 ("[2,2]", "[2]", "separation.1: there are 1 items, and 2 classes"),

@@ -6,10 +6,11 @@ import shutil
 import click
 
 from ..core.program import Draft
-from ..library.faults import Told
-from ..library.folder import Folder, find, look
+from ..library.faults import Refused, Told
+from ..library.folder import LOG, Folder, find, look
 from ..library.linted import told_of
 from .common import port_options, program_of, say, say_json, store_of
+from .sentences import Reader
 
 # The program's own status for a bad input.
 BAD_INPUT = 4
@@ -27,7 +28,7 @@ def command(folder: str, day: str | None, as_json: bool, program: str) -> int:
     Example: tw check east-port
     """
     looked = look(find(folder), day)
-    told = looked.told + (linted(looked.folder, program) if looked.folder else [])
+    told = looked.told + (logged(looked.folder) + linted(looked.folder, program) if looked.folder else [])
     wrong = any(not one.hint for one in told)
     port = None if wrong else looked.folder
     if as_json:
@@ -48,6 +49,17 @@ def members_of(told: Told) -> dict[str, object]:
 def summary(folder: Folder, hints: bool) -> str:
     return (f"{'nothing wrong' if hints else 'clean'}: {len(folder.port.ships)} movements from {folder.clock.at(0)} to "
             f"{folder.clock.at(folder.clock.slots)}, {len(folder.port.waypoints)} waypoints, {folder.port.fleet} tugs")
+
+
+def logged(folder: Folder) -> list[Told]:
+    """What is wrong with the sentences of the log."""
+    reader, told = Reader(folder, {}, 0), []
+    for line in folder.log:
+        try:
+            reader.read(line.said)
+        except Refused as cause:
+            told.append(Told(LOG, f"{cause}", row=line.row, column="said"))
+    return told
 
 
 def linted(folder: Folder, program: str) -> list[Told]:

@@ -38,6 +38,15 @@ def port_options(command: Command) -> Command:
     return command
 
 
+def ship_names(context: click.Context, parameter: click.Parameter, incomplete: str) -> list[str]:
+    """The ships of the port's folder that begin so, for a shell that completes a word."""
+    try:
+        names = read(find(str(context.params.get("folder") or "."))).port.ships
+    except (Refused, OSError):
+        return []
+    return [name for name in names if name.lower().startswith(incomplete.lower())]
+
+
 def asking_options(command: Command) -> Command:
     """--in, --day, --json and --program, of a command whose words are ships or changes."""
     for option in (PROGRAM, JSON, DAY, INSIDE):
@@ -96,6 +105,11 @@ def warn(text: str) -> None:
     click.echo(printable(text), err=True)
 
 
+def in_tonnes(tenths: int | None) -> float | None:
+    """Tenths of a tonne in tonnes, for JSON."""
+    return None if tenths is None else tenths / 10
+
+
 def say_json(answer: object) -> None:
     click.echo(json.dumps(answer, ensure_ascii=True, indent=1))
 
@@ -120,5 +134,5 @@ def terminal() -> bool:
     return sys.stderr.isatty()
 
 
-__all__ = ["DAY", "FOLDER", "INSIDE", "JSON", "PROGRAM", "Busy", "Failed", "Place", "alone", "asking_options", "near", "place_of", "port_options",
-           "program_of", "say", "say_json", "say_rows", "store_of", "terminal", "warn"]
+__all__ = ["DAY", "FOLDER", "INSIDE", "JSON", "PROGRAM", "Busy", "Failed", "Place", "alone", "asking_options", "in_tonnes", "near", "place_of",
+           "port_options", "program_of", "say", "say_json", "say_rows", "ship_names", "store_of", "terminal", "warn"]

@@ -2,37 +2,28 @@
 from __future__ import annotations
 
 import json
-import sqlite3
 from dataclasses import dataclass
 from typing import Any
 
 import click
 
-from ..core.facts import Port, in_words, matrix, port_of, said_of
+from ..core.facts import Port, in_words, matrix, said_of
 from ..core.pins import why_not
-from ..core.reading import clash_of, flat_of, restrictions_of, timetable_of, tonnes, windows_of
+from ..core.plans import own_inputs
+from ..core.reading import clash_of, flat_of, restrictions_of, timetable_of, windows_of
 from ..core.runs import Inputs
+from ..core.wishes import Wish, wishes_of
 from ..library.clock import Clock
 from ..library.faults import Refused
-from .common import Place, asking_options, place_of, say, say_json, warn
-from .windows import Windows, draft_of, metres, slot_of, why_not as not_there
+from .common import Place, asking_options, in_tonnes, place_of, say, say_json, ship_names, warn
+from .day import dated, standing
+from .windows import Windows, slot_of, why_not as not_there
 
 FITS, CLASHES, UNFINISHED = 0, 1, 2
-PLAN = """SELECT plan.number, run.* FROM plan JOIN run ON run.id = plan.run JOIN day ON day.id = plan.day
-          WHERE day.name = ? ORDER BY plan.number DESC LIMIT 1"""
-
-
-@dataclass(frozen=True)
-class Dated(Port):
-    """A port whose times are said with their date where it isn't that of slot 0."""
-    dates: Clock | None = None
-
-    def clock(self, slot: int) -> str:
-        return self.dates.short(slot) if self.dates else super().clock(slot)
 
 
 @click.command("why")
-@click.argument("ship", required=False)
+@click.argument("ship", required=False, shell_complete=ship_names)
 @click.argument("time", required=False)
 @asking_options
 def command(ship: str | None, time: str | None, folder: str, day: str | None, as_json: bool, program: str) -> int:
@@ -41,9 +32,9 @@ def command(ship: str | None, time: str | None, folder: str, day: str | None, as
     With SHIP and TIME: the draft and the cargo with which she would sail then, or what forbids it; and which restrictions would break if the
     other ships kept their times of the day's plan.
 
-    With --json: `fits`, `holds`, `said` and `kept`, a list of `said` and `without`; or `ship`, `time`, `sails`, `draft`, `cargo`, `why`,
-    `plan` and `broken`. A draft is in centimetres, a cargo in tenths of a tonne. Without words the status is that of `clash`: 0 where
-    something fits, 1 where nothing does, 2 where that wasn't found out.
+    With --json: `fits`, `holds`, `said` and `kept`, a list of `said` and `without`; or `ship`, `time`, `sails`, `draft_m`, `cargo_t`,
+    `why`, `plan`, `planned` (her time in it) and `broken`. Drafts are in metres, cargo is in tonnes. Without words the status is that of
+    `clash`: 0 where something fits, 1 where nothing does, 2 where that wasn't found out.
 
     \b
     Example: tw why Corvo 14:05
@@ -61,11 +52,6 @@ def command(ship: str | None, time: str | None, folder: str, day: str | None, as
     return 0
 
 
-def dated(place: Place, inputs: Inputs) -> Dated:
-    members: dict[str, Any] = vars(port_of(place.program, inputs.instance))
-    return Dated(**members, dates=place.folder.clock)
-
-
 def inputs_of(place: Place) -> Inputs:
     return Inputs(place.store.put(place.folder.instance.encode()), place.store.put(place.folder.tides.encode()))
 
@@ -77,12 +63,13 @@ def clash(place: Place) -> dict[str, Any]:
     answer: dict[str, Any] = {"fits": told["said"].startswith("met "), "holds": told["holds"], "said": told["said"], "kept": []}
     if not told["holds"]:
         return answer
-    port, found = dated(place, inputs), clash_of(place.store.get(told["clash"]).decode())
+    port, found = dated(place, inputs.instance), clash_of(place.store.get(told["clash"]).decode())
     lines = restrictions_of(place.program.ask("explain", "port", *inputs.words()).output)
     for number in found.kept:
         without = {port.ships[ship]: port.clock(slot) for ship, slot in enumerate(found.drops.get(number, []))
                    if slot < port.slots and concerned(ship, found.kept, lines)}
-        answer["kept"].append({"said": in_words(lines[number], port) + shut(place, inputs, lines[number]), "without": without})
+        shut = never(place, inputs, lines[number], port)
+        answer["kept"].append({"said": in_words(lines[number], port) + shut, "without": without})
     return answer
 
 
@@ -95,7 +82,7 @@ def concerned(ship: int, kept: list[int], lines: list[str]) -> bool:
     return False
 
 
-def shut(place: Place, inputs: Inputs, line: str) -> str:
+def never(place: Place, inputs: Inputs, line: str, port: Port) -> str:
     """Of a ship that can sail in none of her slots, why not."""
     kind, *words = line.split(" ")
     if kind != "window":
@@ -103,10 +90,11 @@ def shut(place: Place, inputs: Inputs, line: str) -> str:
     stretches = windows_of(place.program.ask("windows", "port", *inputs.words()).output)[int(words[0])]
     if any(one.kind == "from" for one in stretches):
         return ""
-    return ": she can't sail at all: " + "; ".join(dict.fromkeys(said_of(one.kind, one.said) for one in stretches))
+    return ": she can't sail at all: " + "; ".join(dict.fromkeys(said_of(one.kind, one.said, port.clock) for one in stretches))
 
 
 def say_clash(answer: dict[str, Any], as_json: bool) -> int:
+    """Prints the clash, and returns the status."""
     if as_json:
         say_json(answer)
     elif answer["fits"]:
@@ -124,38 +112,65 @@ def say_clash(answer: dict[str, Any], as_json: bool) -> int:
     return FITS if answer["fits"] else CLASHES if answer["holds"] else UNFINISHED
 
 
-def plan_of(place: Place) -> sqlite3.Row | None:
-    """The run of the day's last plan, with its number."""
-    return place.store.row(PLAN, place.folder.day)
+@dataclass(frozen=True)
+class Against:
+    """The day's plan, with which a sailing is compared: its number, inputs and slots, what it leaves each ship, and tugs that are out."""
+    number: int
+    inputs: Inputs
+    slots: list[int]
+    wishes: list[Wish]
+    out: int
+
+
+def against(place: Place) -> Against | None:
+    """The day's last plan, if it is one of the ships that are in the folder."""
+    plan = standing(place)
+    run = None if plan is None else place.store.row("SELECT * FROM run WHERE id = ?", plan["run"])
+    slots = timetable_of(place.store.get(run["cert"])) if run is not None and run["cert"] else None
+    if plan is None or run is None or slots is None:
+        return None
+    if names_in(place, run["instance"]) != place.folder.port.ships:
+        warn("The plan has other ships: `tw plan` makes one of those that are there now.")
+        return None
+    if own_inputs(place.store, run) != inputs_of(place):
+        warn(f"The files were changed since plan {plan['number']}; this is said of the plan's.")
+    wishes, out = wishes_of(place.store.get(run["plan"]).decode()) if run["plan"] else ([], 0)
+    return Against(plan["number"], Inputs(run["instance"], run["tides"]), slots, wishes, out)
 
 
 def at_time(place: Place, ship: int, slot: int) -> dict[str, Any]:
-    """What is said of a ship in a slot."""
-    inputs, clock = inputs_of(place), place.folder.clock
-    (stretch,) = Windows(place, slot).at(ship, slot)
+    """What is said of a ship in a slot: by the day's plan, with what has happened, or else by the folder's files."""
+    plan, clock = against(place), place.folder.clock
+    inputs = plan.inputs if plan else inputs_of(place)
+    (stretch,) = Windows(place, slot, inputs).at(ship, slot)
     sails = stretch.kind == "from"
     flat = flat_of(place.program.ask("flatten", *inputs.words()).output)
+    gone = gone_by(plan, ship, slot, clock) if plan else None
     answer: dict[str, Any] = {
-        "ship": place.folder.port.ships[ship], "time": clock.at(slot), "sails": sails, "draft": draft_of(stretch)[1] if sails else None,
-        "cargo": flat.values[ship][slot] if sails else None, "why": None if sails else not_there(stretch), "plan": None, "broken": None}
-    run = plan_of(place)
-    if sails and run is not None:
-        answer.update(against(place, run, ship, slot, inputs))
+        "ship": place.folder.port.ships[ship], "time": clock.at(slot), "sails": sails and not gone,
+        "draft_m": stretch.drafts[1] / 100 if sails else None, "cargo_t": in_tonnes(flat.values[ship][slot]) if sails else None,
+        "why": gone or (None if sails else not_there(stretch, clock)), "plan": None, "planned": None, "broken": None}
+    if plan and answer["sails"]:
+        answer.update(compared(place, plan, ship, slot))
     return answer
 
 
-def against(place: Place, run: sqlite3.Row, ship: int, slot: int, inputs: Inputs) -> dict[str, Any]:
-    """What would break in the day's plan. Another line-up than the plan's isn't compared."""
-    slots = timetable_of(place.store.get(run["cert"])) if run["cert"] else None
-    if slots is None:
-        return {}
-    if names_in(place, run["instance"]) != place.folder.port.ships:
-        warn("The plan has other ships: `tw plan` makes one of those that are there now.")
-        return {}
-    port = dated(place, inputs)
-    lines = restrictions_of(place.program.ask("explain", "port", *inputs.words()).output)
-    broken = matrix(place.program, inputs, slots, ship, port.slots, 0)[slot]
-    return {"plan": run["number"], "planned": None if slots[ship] >= port.slots else place.folder.clock.at(slots[ship]),
+def gone_by(plan: Against, ship: int, slot: int, clock: Clock) -> str | None:
+    """What has happened that forbids her this slot."""
+    wish = plan.wishes[ship] if plan.wishes else None
+    if wish is not None and wish.first is None:
+        return f"she has sailed at {clock.short(wish.slot)}"
+    if wish is not None and wish.first is not None and slot < wish.first:
+        return f"she can't sail before {clock.short(wish.first)}"
+    return None
+
+
+def compared(place: Place, plan: Against, ship: int, slot: int) -> dict[str, Any]:
+    """What would break in the day's plan."""
+    port = dated(place, plan.inputs.instance)
+    lines = restrictions_of(place.program.ask("explain", "port", *plan.inputs.words()).output)
+    broken = matrix(place.program, plan.inputs, plan.slots, ship, port.slots, plan.out)[slot]
+    return {"plan": plan.number, "planned": None if plan.slots[ship] >= port.slots else place.folder.clock.at(plan.slots[ship]),
             "broken": [in_words(lines[number], port) for number in broken]}
 
 
@@ -164,11 +179,12 @@ def names_in(place: Place, instance: str) -> list[str]:
 
 
 def say_time(here: dict[str, Any]) -> None:
+    """Prints what is said of a ship and a time."""
     if not here["sails"]:
         say(f"{here['ship']} can't sail at {here['time']}: {here['why']}")
         return
-    say(f"{here['ship']} may sail at {here['time']} with {metres(here['draft'])} m"
-        + (f" and {tonnes(here['cargo'])} t" if here["cargo"] else ""))
+    say(f"{here['ship']} may sail at {here['time']} with {here['draft_m']:.2f} m"
+        + (f" and {here['cargo_t']:,.1f} t" if here["cargo_t"] else ""))
     if here["plan"] is None:
         say("There is no plan of the day yet with which that could be compared.")
     elif not here["broken"]:

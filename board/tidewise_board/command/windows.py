@@ -15,33 +15,33 @@ from ..core.reading import Stretch, windows_of
 from ..core.runs import Inputs
 from ..library.clock import Clock
 from ..library.faults import Refused
-from .common import Place, asking_options, place_of, say, say_json
+from .common import Place, asking_options, place_of, say, say_json, ship_names
 
 # A stretch outside a ship's own window, of which the program says nothing.
 OWN = "own"
 
 
 @click.command("windows")
-@click.argument("ships", nargs=-1, metavar="[SHIP ..]")
+@click.argument("ships", nargs=-1, metavar="[SHIP ..]", shell_complete=ship_names)
 @click.option("--draft", metavar="METRES", help="When each may sail with this draft, as 17.80.")
 @click.option("--at", "time", metavar="TIME", help="With which draft each may sail at this time, as 14:05 or 15 Mar 02:00.")
 @asking_options
-def command(ships: tuple[str, ...], draft: str | None, time: str | None, folder: str, day: str | None, as_json: bool, program: str) -> int:
-    """Says when each SHIP, or each of all, may sail, with which draft, and why not at other times. Other ships, berths and tugs aren't
-    looked at. Times are those at which slots begin, from the first to the last of each stretch.
+def command(ships: tuple[str, ...], draft: str | None, time: str | None, **asked: Any) -> int:
+    """Says when each SHIP, or each ship of the day, may sail, with which draft, and why she can't at other times. Other ships, berths
+    and tugs aren't looked at. Times are those at which slots begin, from the first to the last slot of each stretch.
 
-    With --json: a list of `ship`, `direction`, `stretches` and, where a draft is asked for, `load`. A stretch has `from` and `to` and
-    either `least` and `greatest`, drafts in centimetres, and `full`, or `why`; `load` has `draft` and `times`.
+    With --json: a list of `ship`, `direction`, `stretches` and, of a ship that goes out, `load`. A stretch has `from` and `to` and
+    either `least_m` and `greatest_m`, drafts in metres, and `full`, or `why`; `load` has `draft_m` and `times`.
 
     \b
     Example: tw windows Corvo --draft 17.80
     """
-    place = place_of(folder, day, program)
+    place = place_of(asked["folder"], asked["day"], asked["program"])
     wanted = None if draft is None else centimetres(draft)
     numbers = [place.folder.ship_of(name) for name in ships] or list(range(len(place.folder.port.ships)))
-    asked = Windows(place, None if time is None else slot_of(time, place.folder.clock))
-    answers = [asked.answer(number, wanted) for number in numbers]
-    if as_json:
+    windows = Windows(place, None if time is None else slot_of(time, place.folder.clock))
+    answers = [windows.answer(number, wanted) for number in numbers]
+    if asked["as_json"]:
         say_json([answer.members() for answer in answers])
         return 0
     for answer in answers:
@@ -68,6 +68,7 @@ def instance_of(text: str) -> dict[str, Any]:
 
 
 def slot_of(time: str, clock: Clock) -> int:
+    """The slot in which a time lies; `Refused` where it is outside the day."""
     slot = clock.slot_at(clock.minute(time))
     if not 0 <= slot < clock.slots:
         raise Refused(f"{time} isn't from {clock.at(0)} to {clock.at(clock.slots)}")
@@ -85,29 +86,32 @@ class Answer:
     @property
     def greatest(self) -> int | None:
         """The greatest draft with which she may sail in some slot."""
-        return max((draft_of(one)[1] for one in self.stretches if one.kind == "from"), default=None)
+        return max((one.drafts[1] for one in self.stretches if one.kind == "from"), default=None)
 
     def members(self) -> dict[str, Any]:
+        """The answer as JSON."""
         found = {"ship": self.ship["name"], "direction": self.ship["direction"], "stretches": list(map(self.stretch, self.stretches))}
         if self.draft is not None:
-            found["load"] = {"draft": self.draft, "times": [self.between(*times) for times in self.times]}
+            found["load"] = {"draft_m": self.draft / 100, "times": [self.between(*times) for times in self.times]}
         return found
 
     def between(self, first: int, last: int) -> dict[str, Any]:
         return {"from": self.clock.at(first), "to": self.clock.at(last)}
 
     def stretch(self, one: Stretch) -> dict[str, Any]:
+        """A stretch as JSON."""
         if one.kind != "from":
-            return {**self.between(one.first, one.last), "why": why_not(one)}
-        least, greatest = draft_of(one)
-        return {**self.between(one.first, one.last), "least": least, "greatest": greatest, "full": one.said.endswith(" full")}
+            return {**self.between(one.first, one.last), "why": why_not(one, self.clock)}
+        least, greatest = one.drafts
+        return {**self.between(one.first, one.last), "least_m": least / 100, "greatest_m": greatest / 100, "full": one.said.endswith(" full")}
 
     def lines(self) -> list[str]:
+        """The answer in lines."""
         ship = self.ship
         drafts = metres(ship["light"]) if ship["direction"] == "incoming" else f"{metres(ship['light'])} to {metres(ship['deep'])}"
         lines = [f"{ship['name']}, {ship['direction']}, {drafts} m"]
         for one in self.stretches:
-            lines.append(f"  {self.said(one.first, one.last)}  {drafts_said(one) if one.kind == 'from' else why_not(one)}")
+            lines.append(f"  {self.said(one.first, one.last)}  {drafts_said(one) if one.kind == 'from' else why_not(one, self.clock)}")
         if self.draft is not None:
             full = " (full)" if self.draft == ship["deep"] else ""
             lines.append(f"  to load to {metres(self.draft)}{full}: "
@@ -121,36 +125,32 @@ class Answer:
         return self.clock.short(first) + ("" if first == last else f" to {self.clock.short(last)}")
 
 
-def why_not(one: Stretch) -> str:
+def why_not(one: Stretch, clock: Clock) -> str:
     """Why she can't sail in a stretch."""
-    return one.said if one.kind == OWN else said_of(one.kind, one.said)
-
-
-def draft_of(one: Stretch) -> tuple[int, int]:
-    """The least and the greatest draft of `from S M to S M draft LEAST GREATEST full`."""
-    words = one.said.split(" ")
-    return int(words[7]), int(words[8])
+    return one.said if one.kind == OWN else said_of(one.kind, one.said, clock.short)
 
 
 def drafts_said(one: Stretch) -> str:
-    least, greatest = draft_of(one)
+    least, greatest = one.drafts
     return f"{metres(least)} to {metres(greatest)} m" if least < greatest else f"{metres(greatest)} m"
 
 
 class Windows:
-    """The program's windows of all ships; with a slot, those of this slot alone."""
+    """The program's windows of all ships; with a slot, those of this slot alone. The inputs are the folder's, unless others are given."""
 
-    def __init__(self, place: Place, slot: int | None) -> None:
+    def __init__(self, place: Place, slot: int | None, inputs: Inputs | None = None) -> None:
         self.place, self.slot = place, slot
         folder, store = place.folder, place.store
-        self.inputs = Inputs(store.put(folder.instance.encode()), store.put(folder.tides.encode()))
+        self.inputs = inputs or Inputs(store.put(folder.instance.encode()), store.put(folder.tides.encode()))
+        self.instance = store.get(self.inputs.instance).decode()
         said = place.program.ask("windows", "port", *self.inputs.words())
         if said.status:
             raise Refused(said.output.strip())
         self.stretches = windows_of(said.output)
-        self.ships: list[dict[str, Any]] = instance_of(folder.instance)["ships"]
+        self.ships: list[dict[str, Any]] = instance_of(self.instance)["ships"]
 
     def answer(self, ship: int, draft: int | None) -> Answer:
+        """What is said of a ship, and of a draft in centimetres, if one is asked for."""
         here = self.ships[ship]
         if self.slot is not None:
             return Answer(here, self.at(ship, self.slot), self.place.folder.clock)
@@ -176,7 +176,7 @@ class Windows:
             clock = self.place.folder.clock
             own = f"her own window is {clock.short(here['earliest'])} to {clock.short(here['latest'])}"
             return [Stretch(OWN, slot, slot, own)]
-        changed = instance_of(self.place.folder.instance)
+        changed = instance_of(self.instance)
         changed["ships"][ship].update({"earliest": slot, "latest": slot})
         said = self.place.program.ask("windows", "port", Draft(json.dumps(changed).encode(), "day.json"), Text(self.inputs.tides, "tides.csv"))
         if said.status:

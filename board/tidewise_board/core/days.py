@@ -10,6 +10,7 @@ from typing import Any
 
 from ..library import port as port_script
 from ..library.base import start_of
+from ..library.dates import ORDERS
 from ..library.faults import Fault as Misplaced
 from ..library.faults import Refused, Wrong
 from ..library.faults import Told as At
@@ -118,7 +119,7 @@ def classify(name: str, text: str) -> str:
         return "table"
     if is_line_up(start):
         return "ships"
-    if re.search(r"[0-9]{1,2}:?[0-9]{2}\s+-?[0-9]+[.,][0-9]", start):
+    if re.search(r"[0-9]{1,2}:?[0-9]{2}[\s,;]+-?[0-9]+[.,][0-9]", start):
         return "list"
     raise NoDay(f"{name} is none of: ships (CSV with columns), a port or an instance (JSON), a tide table (CSV), printed waters")
 
@@ -171,14 +172,25 @@ def waypoints_of(source: Source) -> list[str]:
 
 
 def lists_of(source: Source, files: list[tuple[str, str]]) -> list[dict[str, str]]:
-    """Printed waters for each waypoint: the file that has its name, or else the next one."""
-    rest = list(files)
-    found = []
+    """Printed waters for each waypoint: the file that the port names or that has its name, or else the next one."""
+    rest, texts, found = list(files), dict(files), []
+    said = tides_said(source)
     for waypoint in waypoints_of(source):
-        named = [one for one in rest if waypoint.lower() in one[0].lower()] or rest[:1]
-        if named:
+        name, differences = said.get(waypoint, ("", ""))
+        named = [(name, texts[name])] if name in texts else [one for one in files if waypoint.lower() in one[0].lower()] or rest[:1]
+        if named and named[0] in rest:
             rest.remove(named[0])
-        found.append({"waypoint": waypoint, "text": named[0][1] if named else "", "differences": ""})
+        found.append({"waypoint": waypoint, "text": named[0][1] if named else "", "differences": differences if name in texts else ""})
+    return found
+
+
+def tides_said(source: Source) -> dict[str, tuple[str, str]]:
+    """The file and the differences of each waypoint whose `tide` the port says, as `Bar.txt+24m*1.03-5cm`."""
+    found = {}
+    for item in json.loads(source.base)["waypoints"] if waypoints_of(source) else []:
+        parts = re.fullmatch(r"(.+?\.(?:txt|csv))(.*)", str(item.get("tide", "")), re.IGNORECASE)
+        if parts:
+            found[str(item["name"])] = (parts[1], parts[2])
     return found
 
 
@@ -252,6 +264,11 @@ def instance_text(source: Source) -> Written:
     return Written(port_script.text_of(made.instance) + "\n", list(map(told_of, made.hints)), made.rows)
 
 
+def berths_of(source: Source) -> dict[int, str]:
+    """The berth of each ship by the day's table, where it names one."""
+    return {ship: row.cells["berth"] for ship, row in enumerate(instance_text(source).rows) if row.cells.get("berth")}
+
+
 def told_of(one: At) -> Told:
     """What the library tells, at its cell. Its rows count from 1, the header among them."""
     if one.file == "ships":
@@ -270,8 +287,9 @@ def tides_text(source: Source, instance: str | None) -> tuple[str | None, list[T
         base = json.loads(source.base)
         start, minutes, said = start_of(base["start"]), int(base["slot_minutes"]), base.get("tides") or {}
         heights = json.loads(instance).get("heights") if instance else base.get("heights")
-        options = Options(source.dates or base.get("dates"), bool(said.get("feet")), heights == "start", bool(said.get("one_clock")))
-    except (ValueError, KeyError, TypeError, AttributeError, Misplaced):
+        order = source.dates or (base["dates"] if base.get("dates") in ORDERS else None)
+        options = Options(order, bool(said.get("feet")), heights == "start", bool(said.get("one_clock")))
+    except (ValueError, KeyError, TypeError, AttributeError, RecursionError, Misplaced):
         return None, [Told("tide", "printed waters need the port's start and slot_minutes")]
     try:
         lists = [listing(one) for one in source.lists]
@@ -288,16 +306,14 @@ def listing(one: dict[str, str]) -> Listing:
 
 
 def placed(fault: Fault, source: Source, rows: list[Row]) -> Told:
-    """A fault of the program at its cell: its ships count from 0, blank rows not among them."""
+    """A fault of the program at its cell: its ships count from 0, and a row of a table may be none of them, or two."""
     found = re.fullmatch(r"ships\.([0-9]+)(?:\.([a-z_]+))?.*", fault.place)
     if found and int(found[1]) < len(rows):
         row = rows[int(found[1])]
         return Told("ships", fault.said, fault.hint, row.number - 2, row.head(found[2] or "name"))
     if found:
-        filled = [number for number, row in enumerate(source.rows) if any(cell.strip() for cell in row)]
-        ship = int(found[1])
-        column = found[2] if found[2] in source.columns else None
-        return Told("ships", fault.said, fault.hint, filled[ship] if ship < len(filled) else None, column)
+        ship, column = int(found[1]), found[2] if found[2] in source.columns else None
+        return Told("ships", fault.said, fault.hint, ship if ship < len(source.rows) else None, column)
     if fault.place == "tides":
         return Told("tide", fault.said, fault.hint)
     return Told("port", fault.said, fault.hint, place=fault.place)

@@ -69,10 +69,16 @@ def _stay(data: dict[str, Any], rows: dict[int, dict[str, str]], ship: int, same
         first = _arrives(data, rows, same[ship]) if ship in same else None
         if ship in same and first is None:
             return None
-        return Stay(one["name"], first, slot, ship, slot)
+        return Stay(hull(one["name"], data["ships"][same[ship]]["name"]) if ship in same else one["name"], first, slot, ship, slot)
     if slot is None or ship in same.values():
         return None
     return Stay(one["name"], _arrives(data, rows, ship), None, ship, slot)
+
+
+def hull(leaves: str, comes: str) -> str:
+    """The name of a ship that comes in and sails again: without the word for which of the two it is, where that is all that differs."""
+    bare = leaves.removesuffix(" out")
+    return bare if bare == comes.removesuffix(" in") else leaves
 
 
 def _arrives(data: dict[str, Any], rows: dict[int, dict[str, str]], ship: int) -> int | None:

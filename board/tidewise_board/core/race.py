@@ -4,9 +4,10 @@ from __future__ import annotations
 import os
 import threading
 import time
+from collections.abc import Callable
 
-from .reading import Unread
 from .program import Failed
+from .reading import Unread
 from .runs import Inputs, Runs
 from .store import Damaged
 
@@ -22,8 +23,14 @@ def idle(runs: Runs) -> int:
 
 def begin(runs: Runs, day: int, inputs: Inputs, label: str, budget: int, input_id: int | None = None) -> int:
     """Begins the search without a seed, and after its head start one on each idle processor. Returns the number of the first."""
-    leader = runs.begin(day, inputs, "plan", label, budget, input_id)
-    runs.races.add(leader)
+    return join(runs, lambda: runs.begin(day, inputs, "plan", label, budget, input_id))
+
+
+def join(runs: Runs, first: Callable[[], int]) -> int:
+    """The same of a run of any kind, which `first` begins; it is no run that goes on from a certificate."""
+    with runs.lock:
+        leader = first()
+        runs.races.add(leader)
     threading.Thread(target=_race, args=(runs, leader), name=f"race-{leader}", daemon=True).start()
     return leader
 
@@ -34,8 +41,8 @@ def members(runs: Runs, leader: int) -> list[int]:
 
 
 def winner(runs: Runs, leader: int) -> int:
-    """The run that stands for a race that has ended: the one of kind `plan`."""
-    row = runs.store.row("SELECT id FROM run WHERE race = ? AND kind = 'plan'", leader)
+    """The run that stands for a race that has ended: the one that isn't of kind `race`."""
+    row = runs.store.row("SELECT id FROM run WHERE race = ? AND kind <> 'race'", leader)
     return int(row["id"]) if row else leader
 
 
@@ -111,14 +118,18 @@ def _rank(runs: Runs, number: int) -> tuple[bool, int, int] | None:
 
 
 def settle(runs: Runs, leader: int) -> int:
-    """Makes the best run of a race the day's plan, and returns its number; the others stay as they are, under another kind."""
+    """Lets the best run of a race stand, and returns its number; the others stay as they are, under another kind. The second checker is
+    asked of it alone."""
     ranked = [(rank, -number) for number in members(runs, leader) if (rank := _rank(runs, number)) is not None]
-    winner = -max(ranked)[1] if ranked else leader
-    if winner != leader:
+    before = winner(runs, leader)
+    best = -max(ranked)[1] if ranked else before
+    if best != before:
+        kind = runs.get(before)["kind"]
         with runs.store.change() as db:
-            db.execute("UPDATE run SET kind = 'race', race = ? WHERE id = ?", (leader, leader))
-            db.execute("UPDATE run SET kind = 'plan' WHERE id = ?", (winner,))
-    return winner
+            db.execute("UPDATE run SET kind = 'race', race = ? WHERE id = ?", (leader, before))
+            db.execute("UPDATE run SET kind = ? WHERE id = ?", (kind, best))
+    runs.second_opinion(best)
+    return best
 
 
 def take_up(runs: Runs) -> None:

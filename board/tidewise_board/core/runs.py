@@ -124,7 +124,8 @@ class Runs:
                 self._close(run["id"], "interrupted", json.loads(run["series"]))
             except (Failed, Unread, Damaged, OSError) as fault:
                 self._set(run["id"], state="failed", fault=f"{type(fault).__name__}: {fault}")
-        for run in self.store.rows("SELECT id FROM run WHERE verdict IS NOT NULL AND second IS NULL AND plan IS NULL") if self.second else []:
+        unasked = self.store.rows("SELECT id FROM run WHERE verdict IS NOT NULL AND second IS NULL AND plan IS NULL AND kind <> 'race'")
+        for run in unasked if self.second else []:
             self.seconds.submit(self._second, run["id"])
 
     def get(self, number: int) -> sqlite3.Row:
@@ -160,9 +161,9 @@ class Runs:
     def begin_seeded(self, first: sqlite3.Row, seed: int) -> int:
         """Begins the search of a run again by another seed, as one of its race."""
         number = self.store.insert(
-            "INSERT INTO run(day, input, kind, label, instance, tides, budget, program, state, seed, race)"
-            " VALUES (?, ?, 'race', ?, ?, ?, ?, ?, 'waiting', ?, ?)", first["day"], first["input"], f"{first['label']}, seed {seed}",
-            first["instance"], first["tides"], first["budget"], first["program"], seed, first["id"])
+            "INSERT INTO run(day, input, base, kind, label, instance, tides, plan, pins, budget, program, state, seed, race)"
+            " VALUES (?, ?, ?, 'race', ?, ?, ?, ?, ?, ?, ?, 'waiting', ?, ?)", first["day"], first["input"], first["base"], first["label"],
+            first["instance"], first["tides"], first["plan"], first["pins"], first["budget"], first["program"], seed, first["id"])
         self.work[number] = self.racers.submit(self._work, number)
         return number
 
@@ -245,7 +246,15 @@ class Runs:
                   ended=time.time(), pid=None, folder=None)
         if folder:
             shutil.rmtree(folder, ignore_errors=True)
-        if self.second and verdict and cert and not run["plan"] and not self.ending and state != "interrupted":
+        # Of a race only the run that stands at its end is worth the second checker's time.
+        if run["kind"] != "race" and number not in self.races:
+            self.second_opinion(number)
+
+    def second_opinion(self, number: int) -> None:
+        """Asks the second checker of a run in its turn, unless it has answered, or the board ends. It takes no repair."""
+        run = self.get(number)
+        fits = run["verdict"] and run["cert"] and not run["plan"] and run["second"] is None and run["state"] != "interrupted"
+        if self.second and fits and not self.ending:
             self.seconds.submit(self._second, number)
 
     def line_of(self, run: sqlite3.Row, cert: str) -> str:

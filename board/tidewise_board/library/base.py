@@ -80,6 +80,7 @@ def by_name(member: str, inner: str) -> Members:
 
 
 def base_schema() -> Members:
+    """The schema of a base file, with those of an instance in it."""
     properties = SCHEMA["properties"]
     waypoints = {"type": "array", "minItems": 1, "maxItems": 16, "items": {
         "type": "object", "additionalProperties": False, "required": ["name", "depth"],
@@ -136,6 +137,7 @@ def without_remarks(value: Any) -> Any:
 
 
 def start_of(text: str) -> int:
+    """The minute, from year 1, of `start`."""
     try:
         day, clock = text.split(" ")
         return minute_of(day, clock)
@@ -182,10 +184,23 @@ def at_place(name: str, fault: Fault) -> Wrong:
     return Wrong(Told(name, fault.cause, place=".".join(map(str, fault.place)) or "root"))
 
 
+def members_of(pairs: list[tuple[str, Any]]) -> Members:
+    """An object of JSON, each of whose members may stand there once; remarks as often as they like."""
+    members = dict(pairs)
+    if len(members) < len(pairs):
+        names = [name for name, _ in pairs if not name.startswith("#")]
+        for number, name in enumerate(names):
+            if name in names[:number]:
+                raise Fault((name,), "this member stands there twice")
+    return members
+
+
 def read_port(name: str, text: str, order: str | None, day: int | None = None) -> Port:
     """What a base file says, or why it says nothing."""
     try:
-        base = json.loads(text)
+        base = json.loads(text, object_pairs_hook=members_of)
+    except Fault as cause:
+        raise at_place(name, cause) from None
     except json.JSONDecodeError as fault:
         raise Wrong(Told(name, fault.msg, row=fault.lineno)) from None
     except (ValueError, RecursionError):

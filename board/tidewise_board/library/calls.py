@@ -25,6 +25,7 @@ class Movements:
 
 
 def check_columns(table: Table) -> None:
+    """Refuses a head without what each call needs."""
     for column in CALL_NEEDED:
         if not table.has(column):
             raise Fault((table.head_row, column), "this column is missing")
@@ -34,6 +35,7 @@ def check_columns(table: Table) -> None:
 
 
 def movements_of_calls(table: Table, port: Port) -> Movements:
+    """The movements of all calls; one fault is told of each row."""
     check_columns(table)
     rows: list[Row] = []
     hints: list[Told] = []
@@ -47,7 +49,22 @@ def movements_of_calls(table: Table, port: Port) -> Movements:
             faults.append(Told(table.name, fault.cause, row=row.number, column=row.head(str(fault.place[0]))))
     if faults:
         raise Wrong(*faults)
-    return Movements(rows, hints)
+    return Movements(rows, hints + early_turns(rows, port, table.name))
+
+
+def early_turns(rows: list[Row], port: Port, name: str) -> list[Told]:
+    """Hints on calls that arrive before one that has the berth first."""
+    hints: list[Told] = []
+    latest: dict[str, int] = {}
+    for row in rows:
+        berth, minute = row.cells["berth"], minutes_in(row, "earliest", port)
+        if not berth or minute is None or row.cells["direction"] != "incoming":
+            continue
+        if minute < latest.get(berth, minute):
+            hints.append(Told(name, f"she arrives before the ship above her that has {berth} first: turns are in the order of the rows",
+                              row=row.number, column=row.head("earliest"), hint=True))
+        latest[berth] = max(minute, latest.get(berth, minute))
+    return hints
 
 
 def movements(row: Row, port: Port, name: str) -> tuple[list[Row], list[Told]]:
@@ -63,10 +80,11 @@ def movements(row: Row, port: Port, name: str) -> tuple[list[Row], list[Told]]:
         return made, []
     if begins_late(row, "sails", port) or comes and loads_beyond(row, port, made[0]):
         return made, [hint("sails" if "sails" in row.cells else "loads", "she sails after the last slot: that isn't planned")]
+    late = [hint("sails by", "she can't be loaded by then")] if comes and loaded_late(row, port, made[0]) else []
     leaving = movement(row, "outgoing", port)
     if comes:
         leaving.cells.update({"after": made[0].cells["name"], "gap": row.cells.get("loads", "") or "0:00"})
-    return [*made, leaving], []
+    return [*made, leaving], late
 
 
 def minutes_in(row: Row, column: str, port: Port) -> int | None:
@@ -89,13 +107,24 @@ def begins_late(row: Row, column: str, port: Port) -> bool:
 
 def loads_beyond(row: Row, port: Port, incoming: Row) -> bool:
     """Whether loading ends after the last slot, however early the ship comes in."""
+    return loaded(row, port, incoming) >= port.slots
+
+
+def loaded_late(row: Row, port: Port, incoming: Row) -> bool:
+    """Whether loading ends after the time by which she has to sail."""
+    last = minutes_in(row, "sails by", port)
+    return last is not None and loaded(row, port, incoming) > last // port.minutes
+
+
+def loaded(row: Row, port: Port, incoming: Row) -> int:
+    """The first slot in which a ship can sail, however early she comes in."""
     arrives = max(0, minutes_in(row, "arrives", port) or 0)
     try:
         gap = gap_of(row.cells.get("loads", "") or "0:00", port.minutes)
     except Refused as cause:
         raise Fault(("loads",), f"{cause}") from None
     route = port.routes.get(incoming.cells["route"], {"route": [{"offset": 0}]})["route"]
-    return bool(-(-arrives // port.minutes) + gap + max(item["offset"] for item in route) >= port.slots)
+    return int(-(-arrives // port.minutes) + gap + max(item["offset"] for item in route))
 
 
 def movement(row: Row, direction: str, port: Port) -> Row:

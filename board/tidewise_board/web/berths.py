@@ -7,7 +7,7 @@ from typing import Any
 
 from flask import Blueprint
 
-from ..core.days import source_of
+from ..core.days import berths_of, source_of
 from ..core.facts import port_of
 from ..core.lanes import lanes
 from ..core.runs import inputs_of
@@ -23,7 +23,7 @@ def berths(number: int) -> Any:
     """Lanes with stays in slots, and when each slot begins, one more than the slots."""
     here, run = board(), run_of(number)
     port = port_of(here.program, run["instance"])
-    found = lanes(here.program, inputs_of(run), table_of(here.runs, run), named(here, run["input"], port.ships))
+    found = lanes(here.program, inputs_of(run), table_of(here.runs, run), named(here, run["input"]))
     return {"slots": port.slots, "clock": [port.clock(slot) for slot in range(port.slots + 1)],
             "lanes": [{"name": lane.name, "clear": lane.clear, "stays": [{**asdict(stay), "said": said(port, stay)} for stay in lane.stays]}
                       for lane in found]}
@@ -36,14 +36,7 @@ def said(port: Any, stay: Any) -> str:
     return f"{stay.name}: {came}, {left}"
 
 
-def named(here: Board, frozen: int | None, names: list[str]) -> dict[int, str]:
+def named(here: Board, frozen: int | None) -> dict[int, str]:
     """The berth of each ship by the day's sheet, where it has such a column."""
     row = here.store.row("SELECT source FROM input WHERE id = ?", frozen)
-    if row is None:
-        return {}
-    source = source_of(json.loads(here.store.get(row["source"])))
-    heads = [column.strip().lower() for column in source.columns]
-    if "berth" not in heads or "name" not in heads:
-        return {}
-    found = {cells[heads.index("name")].strip(): cells[heads.index("berth")].strip() for cells in source.rows}
-    return {ship: found[name] for ship, name in enumerate(names) if found.get(name)}
+    return berths_of(source_of(json.loads(here.store.get(row["source"])))) if row else {}

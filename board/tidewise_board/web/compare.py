@@ -6,8 +6,9 @@ from typing import Any
 
 from flask import Blueprint, redirect, render_template
 
+from ..core.changes import depth, sails
 from ..core.differences import differences
-from ..core.facts import port_of
+from ..core.facts import Port, port_of
 from ..core.shown import shown, table_of, worth
 from .app import board
 from .plan import run_of
@@ -44,15 +45,13 @@ def rows_of(runs: list[sqlite3.Row]) -> list[dict[str, Any]]:
     for run in runs:
         port = port_of(here.program, run["instance"])
         table = {int(row["ship"]): row for row in table_of(here.runs, run)}
-        plans.append({name: cell(port.clock, table.get(ship)) for ship, name in enumerate(port.ships)})
+        plans.append({name: cell(port, table.get(ship, {})) for ship, name in enumerate(port.ships)})
     names = list(dict.fromkeys(name for plan in plans for name in plan))
     return [{"name": name, "cells": (cells := [plan.get(name) for plan in plans]), "moved": moved(cells)} for name in names]
 
 
-def cell(clock: Any, row: dict[str, str] | None) -> dict[str, str]:
-    if row is None:
-        return {"clock": "no plan", "draft": "", "cargo": ""}
-    return {"clock": clock(int(row["slot"])) if row["slot"] else "stays", "draft": row["draft cm"], "cargo": row["cargo t"]}
+def cell(port: Port, row: dict[str, str]) -> dict[str, str]:
+    return {"clock": sails(row, port), "draft": depth(row), "cargo": row.get("cargo t", "")}
 
 
 def moved(cells: list[dict[str, str] | None]) -> str:

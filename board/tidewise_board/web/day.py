@@ -31,6 +31,15 @@ def latest(number: int) -> int | None:
     return row["id"] if row else None
 
 
+def running(number: int) -> int | None:
+    """The plan of a day that is under way, the first run of its race."""
+    here = board()
+    for row in here.store.rows("SELECT id FROM run WHERE day = ? AND kind = 'plan' AND base IS NULL ORDER BY id DESC LIMIT 5", number):
+        if row["id"] in here.runs.races or here.runs.get(row["id"])["state"] in ("waiting", "running"):
+            return int(row["id"])
+    return None
+
+
 def standing(number: int) -> int | None:
     """The run of a day's last accepted plan, or else its last plan: never a pin that was only tried."""
     row = board().store.row("SELECT run FROM plan WHERE day = ? ORDER BY number DESC", number)
@@ -110,7 +119,7 @@ def latest_plan(number: int) -> Any:
 def day_page(number: int) -> str:
     day = day_of(number)
     here, draft = board(), source(day)
-    return render_template("day.html", day=day, source=asdict(draft), waypoints=waypoints_of(draft), page="day", run=latest(number),
+    return render_template("day.html", day=day, source=asdict(draft), waypoints=waypoints_of(draft), page="day", run=latest(number), running=running(number),
                            first=answer_of(here, make(draft, here.program)))
 
 

@@ -8,6 +8,7 @@ from typing import Any
 from flask import Blueprint, Response, abort, render_template
 
 from .day import day_of
+from ..core import race
 from ..core.facts import facts, port_of
 from ..core.pins import bare_of, pinned, why_not
 from ..core.program import Text
@@ -93,8 +94,9 @@ def pin(number: int) -> Any:
     again = here.store.row("SELECT id FROM run WHERE day = ? AND base = ? AND plan = ? AND instance = ? AND tides = ? AND program = ?"
                            " AND state = 'done' AND kind = 'pin'", run["day"], number, inputs.plan, inputs.instance, inputs.tides,
                            here.program.digest)
-    return {"run": again["id"] if again else here.runs.begin(run["day"], inputs, "pin", label, whole(asked.get("budget", 20000), 1, 100000),
-                                                             run["input"], number, pins)}
+    budget = whole(asked.get("budget", 20000), 1, 100000)
+    return {"run": again["id"] if again else race.join(
+        here.runs, lambda: here.runs.begin(run["day"], inputs, "pin", label, budget, run["input"], number, pins))}
 
 
 @pages.post("/api/run/<int:number>/resume")
@@ -109,7 +111,8 @@ def resume(number: int) -> Any:
     if run["plan"] is None:
         return {"run": here.runs.begin(run["day"], inputs_of(run), "plan", f"{run['label']}, gone on", budget, run["input"], number)}
     pins = {int(ship): slot for ship, slot in json.loads(run["pins"]).items()}
-    return {"run": here.runs.begin(run["day"], inputs_of(run), run["kind"], run["label"], budget, run["input"], run["base"], pins)}
+    return {"run": race.join(here.runs, lambda: here.runs.begin(run["day"], inputs_of(run), run["kind"], run["label"], budget, run["input"],
+                                                                run["base"], pins))}
 
 
 @pages.get("/api/run/<int:number>/why")

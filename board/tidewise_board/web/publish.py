@@ -124,7 +124,7 @@ def text(number: int) -> Response:
     run = here.runs.get(plan["run"])
     port, rows = port_and_rows(run)
     issue = issue_of(plan)
-    found = lanes(here.program, inputs_of(run), table_of(here.runs, run), berths_of(here, run["input"], port.ships))
+    found = lanes(here.program, inputs_of(run), table_of(here.runs, run), berths_of(here, run["input"]))
     berths = [f"{lane.name}: " + "; ".join(stay_words(port, stay) for stay in lane.stays) for lane in found]
     head = head_of(issue, shown(here.runs, plan["run"]))
     return Response(text_for_pilots(head, rows, berths, issue.said), mimetype="text/plain")

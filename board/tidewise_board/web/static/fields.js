@@ -18,9 +18,16 @@ export const FIELDS = {
   route: ['passes', ''],
   channel: ['sections', ''],
   after: ['Ships after others', 'gap in slots'],
+  dates: ['dates are written', 'ymd as 2027-03-14, dmy as 14.03.2027, mdy as 03/14/2027'],
+  tides: ['Printed lists', ''],
+  feet: ['heights in feet', ''],
+  one_clock: ['of one clock, whatever they look like', ''],
   outgoing: ['outgoing', ''],
   incoming: ['incoming', ''],
 };
+
+/** Members with few values. */
+export const CHOICES = {heights: ['least', 'start'], dates: ['ymd', 'dmy', 'mdy']};
 
 export const label = (member) => FIELDS[member]?.[0] ?? member;
 export const unit = (member) => FIELDS[member]?.[1] ?? '';

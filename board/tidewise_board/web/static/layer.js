@@ -23,9 +23,16 @@ export class Layer {
     const state = {row, hit, now, at: now, from: null};
     if (row.ship in this.pins) held(this.svg, this.over, row, this.pins[row.ship]);
     this.pointer(state);
-    hit.addEventListener('focus', () => this.look(state, state.at));
+    hit.addEventListener('focus', () => { if (!this.quiet) this.look(state, state.at); });
     hit.addEventListener('keydown', (event) => { if (this.key(state, event)) event.preventDefault(); });
     this.over.append(hit);
+  }
+
+  /** Gives a ship's row the focus again that its picture before had, without a word on its slot. */
+  focus(ship) {
+    this.quiet = true;
+    this.over.querySelector(`.hit[data-ship="${ship}"]`)?.focus({preventScroll: true});
+    this.quiet = false;
   }
 
   pointer(state) {

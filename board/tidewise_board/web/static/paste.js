@@ -1,5 +1,9 @@
 // A block that was copied from a spreadsheet.
 
+// The heads by which a block is a whole table of ships: one of each.
+const NAMES = ['name', 'ship', 'vessel'];
+const KINDS = ['direction', 'arrives', 'sails', 'loads'];
+
 /** Its rows of cells; nothing for a text that is no block, which the cell takes as it is. */
 export function block_of(text) {
   const bare = text.replace(/\r?\n$/, '');
@@ -9,7 +13,8 @@ export function block_of(text) {
 /** Columns, rows and origins of a sheet with a block laid on it from a cell on. */
 export function laid(block, sheet, top, left) {
   const head = block[0].map((one) => one.trim().toLowerCase());
-  return head.includes('name') && head.includes('direction') ? replaced(head, block.slice(1), sheet) : covered(block, sheet, top, left);
+  const whole = NAMES.some((one) => head.includes(one)) && KINDS.some((one) => head.includes(one));
+  return whole ? replaced(head, block.slice(1), sheet) : covered(block, sheet, top, left);
 }
 
 /** The block is the whole table, its columns in any order; a ship of the same name stays the same ship of the instance. */

@@ -2,9 +2,13 @@
 import {by, follow, make, post, tell, tonnes} from './api.js';
 import {draw} from './progress.js';
 
-/** Makes the buttons work. `settled` keeps what was typed last; `faulty` marks the faults for which a day isn't planned. */
-export function planning(day, settled, faulty) {
+/** Makes the buttons work; `running` is the day's run that is under way, if there is one. `settled` keeps what was typed last; `faulty` marks the faults for which a day isn't planned. */
+export function planning(day, running, settled, faulty) {
   draw(by('chart'), []);
+  if (running !== null) {
+    by('plan').disabled = true;
+    watch(day, running).catch((fault) => { by('state').textContent = fault.message; });
+  }
   by('plan').addEventListener('click', async () => {
     by('plan').disabled = true;
     await settled();
@@ -22,6 +26,12 @@ export function planning(day, settled, faulty) {
 
 async function plan(day) {
   const {run} = await post(`/api/day/${day}/plan`, {budget: Number(by('budget').value), race: by('race').checked});
+  tell('planning');
+  await watch(day, run);
+}
+
+/** Follows a run to its end, and goes to its plan. */
+async function watch(day, run) {
   by('stop').disabled = false;
   by('stop').onclick = () => post(`/api/run/${run}/stop`);
   const end = await follow(run, show);
@@ -32,6 +42,10 @@ async function plan(day) {
   if (end.verdict) location.href = `/day/${day}/plan/${end.id}`;
 }
 
+// When the last words on a search were said aloud, and how often they are, in milliseconds.
+let aloud = 0;
+const OFTEN = 10000;
+
 /** Shows how far the search is, all of it claims of the run. */
 function show(now) {
   draw(by('chart'), now.points, now.now);
@@ -40,4 +54,7 @@ function show(now) {
   by('state').replaceChildren(make('b', {}, best === null ? 'searching' : `${tonnes(best)} t`),
     ` found${bound === null ? '' : `, none above ${tonnes(bound)} t`}`, make('br'),
     make('span', {className: 'm'}, `${many}${lemmas} lemmas, ${seconds.toFixed(1)} s; not verified yet`));
+  if (best === null || performance.now() < aloud + OFTEN) return;
+  aloud = performance.now();
+  tell(by('state').textContent);
 }

@@ -1,8 +1,9 @@
 // The port as a form: each member a field, a table or a list, drawn from the JSON behind it, which each change writes again.
 import {make} from './api.js';
-import {FIRST, PAIR, blank, label, times_of, times_text, unit, value_of} from './fields.js';
+import {CHOICES, FIRST, PAIR, blank, label, times_of, times_text, unit, value_of} from './fields.js';
 
 const TIMES = 'closed';
+const MOST = 200;
 
 export class PortForm {
   /** `text` is the field with the JSON; `whole` says that it is an instance, whose ships are those of the sheet. */
@@ -21,12 +22,23 @@ export class PortForm {
       this.host.replaceChildren(make('p', {className: 'q'}, `The JSON has a fault, mend it there: ${fault.message}`));
       return;
     }
-    const members = Object.keys(this.port).filter((member) => member !== 'ships');
+    try {
+      this.draw();
+    } catch {
+      // What is told of the day says which member has another kind than the program wants.
+      this.fields.clear();
+      this.host.replaceChildren(make('p', {className: 'q'}, 'The JSON has members of another kind than a port: mend them there.'));
+    }
+    this.mark(this.told);
+  }
+
+  draw() {
+    // A member that begins with # says nothing to the program.
+    const members = Object.keys(this.port).filter((member) => member !== 'ships' && !member.startsWith('#'));
     const plain = members.filter((member) => typeof this.port[member] !== 'object' || member === TIMES);
     const rest = members.filter((member) => !plain.includes(member));
     this.host.replaceChildren(make('div', {className: 'fields'}, ...plain.map((member) => this.named(this.port, member, [member]))),
       ...rest.map((member) => this.group(this.port, member, [member])));
-    this.mark(this.told);
   }
 
   write() {
@@ -42,7 +54,8 @@ export class PortForm {
 
   input(owner, key, path, named = typeof key === 'number' ? path.at(-2) : key) {
     const times = named === TIMES, member = typeof key === 'number' && typeof owner[key] === 'string' ? 'name' : named;
-    if (member === 'heights') return this.choice(owner, member, path);
+    if (CHOICES[member]) return this.choice(owner, member, path);
+    if (typeof owner[key] === 'boolean') return this.tick(owner, key, path);
     const input = make('input', {value: times ? times_text(owner[key]) : String(owner[key] ?? ''), spellcheck: false, autocomplete: 'off'});
     if (times) input.classList.add('times'); else if (typeof owner[key] === 'number') input.classList.add('num');
     input.addEventListener('input', () => {
@@ -55,11 +68,18 @@ export class PortForm {
 
   /** A field with few values; one that the JSON has and that isn't among them stays to be chosen. */
   choice(owner, member, path) {
-    const select = make('select', {}, ...[...new Set(['least', 'start', String(owner[member])])].map((one) => make('option', {value: one}, one)));
+    const select = make('select', {}, ...[...new Set([...CHOICES[member], String(owner[member])])].map((one) => make('option', {value: one}, one)));
     select.value = owner[member];
     select.addEventListener('change', () => { owner[member] = select.value; this.write(); });
     this.fields.set(path.join('.'), select);
     return select;
+  }
+
+  tick(owner, key, path) {
+    const input = make('input', {type: 'checkbox', checked: owner[key]});
+    input.addEventListener('change', () => { owner[key] = input.checked; this.write(); });
+    this.fields.set(path.join('.'), input);
+    return input;
   }
 
   group(owner, member, path) {
@@ -73,6 +93,7 @@ export class PortForm {
 
   /** A list: a row each, of its members or of one name. */
   list(items, member, path) {
+    if (items.length > MOST) return make('p', {className: 'm'}, `${items.length} are too many for a form: they stand in the JSON`);
     const columns = [...new Set(items.flatMap((one) => (one !== null && typeof one === 'object' ? Object.keys(one) : [])))];
     const rows = items.map((one, place) => {
       const cells = columns.length ? columns.map((column) => this.cell(one, column, [...path, place, column], `${column} ${place} of ${label(member)}`))

@@ -10,7 +10,9 @@ export function tell_faults(host, told, sheet, elsewhere) {
     return make('p', {}, line);
   });
   const clean = make('p', {className: 'm'}, 'The program reads the day without a fault, and finds nothing odd.');
-  host.replaceChildren(...(lines.length ? lines : [clean]));
+  const said = lines.length ? lines : [clean];
+  // What is said again isn't read out again.
+  if (host.textContent !== said.map((one) => one.textContent).join('')) host.replaceChildren(...said);
 }
 
 function place(one, sheet) {

@@ -1,5 +1,5 @@
 // Windows of a ship: draft against clock time, to which draft she can load for a sailing, and when she may sail with a draft.
-import {by, data, get, tell} from './api.js';
+import {by, data, get} from './api.js';
 import {Curve} from './curve.js';
 
 const {day, clock} = data();
@@ -42,7 +42,6 @@ async function when() {
     by('loads').textContent = fault.message;
     curve.mark([]);
   }
-  tell(by('loads').textContent);
 }
 
 by('ship').addEventListener('change', ship);
