@@ -38,7 +38,7 @@ def command(ships: tuple[str, ...], draft: str | None, time: str | None, **asked
     """
     place = place_of(asked["folder"], asked["day"], asked["program"])
     wanted = None if draft is None else centimetres(draft)
-    numbers = [place.folder.ship_of(name) for name in ships] or list(range(len(place.folder.port.ships)))
+    numbers = [number for name in ships for number in place.folder.ships_of(name)] or list(range(len(place.folder.port.ships)))
     windows = Windows(place, None if time is None else slot_of(time, place.folder.clock))
     answers = [windows.answer(number, wanted) for number in numbers]
     if asked["as_json"]:
