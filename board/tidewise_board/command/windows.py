@@ -178,7 +178,8 @@ class Windows:
             return [Stretch(OWN, slot, slot, own)]
         changed = instance_of(self.instance)
         changed["ships"][ship].update({"earliest": slot, "latest": slot})
-        said = self.place.program.ask("windows", "port", Draft(json.dumps(changed).encode(), "day.json"), Text(self.inputs.tides, "tides.csv"))
+        day, tides = Draft(json.dumps(changed).encode(), "day.json"), Text(self.inputs.tides, "tides.csv")
+        said = self.place.program.ask("windows", "port", day, tides)
         if said.status:
             raise Refused(said.output.strip())
         return windows_of(said.output)[ship]
