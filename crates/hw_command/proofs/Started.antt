@@ -15,7 +15,7 @@ use Rattle.hw_cert_course.specs.declared.stop.CourseStop.{CourseStop}
 use Rattle.hw_cert_course.specs.declared.stop.CourseStop.TheVariants as stops
 use Rattle.hw_report.specs.Reports.{Naming}
 use Rattle.hw_command.specs.Certificates.{report_of_check}
-use Rattle.hw_command.specs.Readings.{HandsOn, KeepsLines, ReadsCert}
+use Rattle.hw_command.specs.Readings.{HandsChecker, KeepsLines, ReadsCert}
 use Rattle.hw_command.specs.Scope.{Entered, GiveBefore, Named, named_feed}
 use Rattle.hw_command.specs.Starting.{StartsCourse, StartsOn, shows_nothing, stop_outcome}
 use Rattle.hw_command.specs.Works.{Works}
@@ -38,7 +38,7 @@ abbrev pub starts_on : {K : Type 0} {Kept : K → List Line → Type 0} {f : Pro
 starts_on read h e = let v = shown_by read.outcome e in record { read = read; shows = v.0; reads = h; outcome = v.1 }
 
 -- what it shows, by the checker that is left
-left_by : (f : Problem) (all : List Line) (o : CertOutcome) (checker : CheckState) → HandsOn f all o (Some checker) → (v : Verdict) × (o ≡ Shows v) × CheckerFollows checker all × (checker.problem ≡ f)
+left_by : (f : Problem) (all : List Line) (o : CertOutcome) (checker : CheckState) → HandsChecker f all o (Some checker) → (v : Verdict) × (o ≡ Shows v) × CheckerFollows checker all × (checker.problem ≡ f)
 left_by f all (Shows v) checker h = (v, refl, h.0, h.1)
 left_by f all (Wrong number word hint) checker h = absurd (cc)
 left_by f all TooLong checker h = absurd (cc)
@@ -47,7 +47,7 @@ left_by f all TooLong checker h = absurd (cc)
 pub course_starts : {f : Problem} {cert : List ℕ} {x y : DeskState} (read : ReadCert (Vec Line Global)) (checker : CheckState) (course : Course) → ReadsCert Three KeepsLines f cert x y (Ok read) → read.checker ≡ Some checker → course.flat.now ≡ f → course.checker ≡ checker → course.lines ≡ read.kept → StartsCourse f cert x y course
 course_starts {f = f} read checker course h left problem taken same =
     let lines = h.reads.1 in
-    let by = left_by f lines.lines read.outcome checker (subst (λ (it : Option CheckState). HandsOn f lines.lines read.outcome it) left lines.hands) in
+    let by = left_by f lines.lines read.outcome checker (subst (λ (it : Option CheckState). HandsChecker f lines.lines read.outcome it) left lines.hands) in
     let all : course.lines.items ≡ lines.lines = ap (λ (kept : Vec Line Global). kept.items) same ∙ lines.kept in
     record {
       starts = record { read = read; shows = by.0; reads = h; outcome = by.1 };

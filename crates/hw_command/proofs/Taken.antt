@@ -19,7 +19,7 @@ use Rattle.hw_check.specs.States.{CheckState}
 use Rattle.hw_command.specs.Certificates.{cert_outcome_to}
 use Rattle.hw_command.specs.Checking.{Reached, rest_outcome, ComesOrStops, IsCheckingOpen, LeavesChecker, OpensCert}
 use Rattle.hw_command.specs.Keeping.{rest_read, StepReads}
-use Rattle.hw_command.specs.Readings.{HandsOn, ReadsOrStops, ReadsRest, ReadsCert}
+use Rattle.hw_command.specs.Readings.{HandsChecker, ReadsOrStops, ReadsRest, ReadsCert}
 use Rattle.hw_command.specs.declared.cert.CertStep.TheVariants.{Further, Ended}
 use Rattle.hw_command.specs.declared.cert.OpenCert.{OpenCert}
 use Rattle.hw_command.specs.declared.cert.ReadCert.{ReadCert}
@@ -59,8 +59,8 @@ taken_on {f = f} {told = told} {read = is_read} {most = most} {before = before} 
     }
 
 -- the checker that is handed on has taken all the lines
-hands_on : (f : Problem) (all : List Line) (c : CheckState) (o : CertOutcome) (left : Option CheckState) → CheckerFollows c all → c.problem ≡ f → LeavesChecker c (Ended (Ok o) left) → HandsOn f all o left
-hands_on f all c (Shows v) left follows same e = subst (λ (it : Option CheckState). HandsOn f all (Shows v) it) (sym e) (follows, same)
+hands_on : (f : Problem) (all : List Line) (c : CheckState) (o : CertOutcome) (left : Option CheckState) → CheckerFollows c all → c.problem ≡ f → LeavesChecker c (Ended (Ok o) left) → HandsChecker f all o left
+hands_on f all c (Shows v) left follows same e = subst (λ (it : Option CheckState). HandsChecker f all (Shows v) it) (sym e) (follows, same)
 hands_on f all c (Wrong number word hint) left follows same e = e
 hands_on f all c TooLong left follows same e = e
 

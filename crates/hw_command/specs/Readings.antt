@@ -41,11 +41,11 @@ KeepsTable kept lines = kept.0 ≡ last_table lines
 -- ---- a certificate
 
 -- a checker of the problem that has taken these lines, where they show something, and none otherwise
-abbrev pub HandsOn : Problem → List Line → CertOutcome → Option CheckState → Type 0
-HandsOn f all (Shows v) None = ⊥
-HandsOn f all (Shows v) (Some checker) = CheckerFollows checker all × (checker.problem ≡ f)
-HandsOn f all (Wrong number word hint) left = left ≡ None
-HandsOn f all TooLong left = left ≡ None
+abbrev pub HandsChecker : Problem → List Line → CertOutcome → Option CheckState → Type 0
+HandsChecker f all (Shows v) None = ⊥
+HandsChecker f all (Shows v) (Some checker) = CheckerFollows checker all × (checker.problem ≡ f)
+HandsChecker f all (Wrong number word hint) left = left ≡ None
+HandsChecker f all TooLong left = left ≡ None
 
 -- the valid lines before an outcome, which have forms of the versions up to this one, and are all that the bytes read as if it shows something; the last bound among them; what was kept of them, and their checker
 pub record ReadsLines {K : Type 0} (most : Version) (Kept : K → List Line → Type 0) (f : Problem) (told : Option (List ℕ)) (outcome : List ℕ → CertOutcome) (read : List ℕ → CertLines) (cert : ReadCert K) : Type 0 where
@@ -54,7 +54,7 @@ pub record ReadsLines {K : Type 0} (most : Version) (Kept : K → List Line → 
   pub keeps : Keeps f told outcome read lines cert.outcome
   pub last : cert.bound ≡ bound_of lines
   pub kept : Kept cert.kept lines
-  pub hands : HandsOn f lines cert.outcome cert.checker
+  pub hands : HandsChecker f lines cert.outcome cert.checker
 
 -- the outcome alone
 abbrev pub outcome_in : {K : Type 0} → Result (ReadCert K) CertStop → Result CertOutcome CertStop

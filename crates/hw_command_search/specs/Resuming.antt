@@ -13,7 +13,7 @@ use Rattle.hw_report.specs.declared.report.Head.TheVariants.{Optimal, Infeasible
 use Rattle.hw_command.specs.Readings.{KeepsLines}
 use Rattle.hw_command.specs.Sending.{SendsTo}
 use Rattle.hw_command.specs.Starting.{StartsCourse, Unstarted, stop_outcome}
-use Rattle.hw_command.specs.WorkEnds.{EndsBy}
+use Rattle.hw_command.specs.WorkEnds.{WorkEnds}
 use Rattle.hw_command.specs.declared.ending.Ending.{Ending}
 use Rattle.hw_command.specs.declared.outcome.CertOutcome.{CertOutcome}
 use Rattle.hw_command.specs.declared.outcome.CertStop.{CertStop}
@@ -59,4 +59,4 @@ ResumingStops f cert old new stopped = Unstarted KeepsLines f cert old new stopp
 
 -- what comes of a certificate
 abbrev pub ResumesTo : Problem → List ℕ → ℕ → List ℕ → DeskState → DeskState → Ending Found → Type 0
-ResumesTo f cert budget proof old new end = EndsBy (ResumingStops f cert) (SendsResumed f cert budget proof) old new end
+ResumesTo f cert budget proof old new end = WorkEnds (ResumingStops f cert) (SendsResumed f cert budget proof) old new end

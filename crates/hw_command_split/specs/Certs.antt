@@ -28,7 +28,7 @@ use Rattle.hw_cert_join.specs.declared.joined.Joined.{Joined}
 use Rattle.hw_cert_course.specs.declared.stop.CourseStop.{CourseStop}
 use Rattle.hw_split_text.specs.declared.node.Node.{Node}
 use Rattle.hw_command.specs.Starting.{shows_nothing, stop_outcome}
-use Rattle.hw_command.specs.WorkEnds.{EndsBy}
+use Rattle.hw_command.specs.WorkEnds.{WorkEnds}
 use Rattle.hw_command.specs.declared.ending.Ending.{Ending}
 
 -- ---- the bytes of several certificates
@@ -160,7 +160,7 @@ JoiningStops f certs old new stopped = Unread f certs old new stopped ⊎ Unjoin
 
 -- what comes of certificates
 abbrev pub JoinsTo : Problem → List Node → List ℕ → List ℕ → DeskState → DeskState → Ending Joined → Type 0
-JoinsTo f nodes certs proof old new end = EndsBy (JoiningStops f certs) (SendsJoined f nodes certs proof) old new end
+JoinsTo f nodes certs proof old new end = WorkEnds (JoiningStops f certs) (SendsJoined f nodes certs proof) old new end
 
 -- ---- reported
 

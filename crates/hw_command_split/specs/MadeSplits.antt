@@ -15,7 +15,7 @@ use Rattle.hw_split_text.specs.Text.{split_text}
 use Rattle.hw_split_choice.specs.Chosen.{IsChosen}
 use Rattle.hw_split_choice.specs.declared.chosen.ChosenSplit.{ChosenSplit}
 use Rattle.hw_command.specs.Starting.{StartsOn, Unstarted}
-use Rattle.hw_command.specs.WorkEnds.{EndsBy}
+use Rattle.hw_command.specs.WorkEnds.{WorkEnds}
 use Rattle.hw_command.specs.declared.ending.Ending.{Ending}
 use Rattle.hw_command_split.specs.declared.splitting.Sizes.{Sizes}
 
@@ -66,4 +66,4 @@ SendsSizes f start parts proof old new sizes sent = (nodes : List Node) × (size
 
 -- what comes of a certificate
 abbrev pub SplitsTo : Problem → List ℕ → ℕ → List ℕ → DeskState → DeskState → Ending Sizes → Type 0
-SplitsTo f start parts proof old new end = EndsBy (SplittingStops f start) (SendsSizes f start parts proof) old new end
+SplitsTo f start parts proof old new end = WorkEnds (SplittingStops f start) (SendsSizes f start parts proof) old new end

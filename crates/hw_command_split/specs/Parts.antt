@@ -18,7 +18,7 @@ use Rattle.hw_split_text.specs.Rooms.{HasRoom}
 use Rattle.hw_split_text.specs.Splits.{Branch, branch_room, part_at}
 use Rattle.hw_command.specs.Readings.{KeepsLines}
 use Rattle.hw_command.specs.Starting.{StartsCourse, Unstarted, stop_outcome}
-use Rattle.hw_command.specs.WorkEnds.{EndsBy}
+use Rattle.hw_command.specs.WorkEnds.{WorkEnds}
 use Rattle.hw_command.specs.declared.ending.Ending.{Ending}
 use Rattle.hw_cert_course.specs.declared.going_on.Course.{Course}
 
@@ -65,4 +65,4 @@ PartingStops f room start old new stopped = Unstarted KeepsLines f start old new
 
 -- what comes of a certificate
 abbrev pub PartsTo : Problem → RoomModel → List ℕ → ℕ → List ℕ → DeskState → DeskState → Ending Bool → Type 0
-PartsTo f room start budget proof old new end = EndsBy (PartingStops f room start) (SendsParted f room start budget proof) old new end
+PartsTo f room start budget proof old new end = WorkEnds (PartingStops f room start) (SendsParted f room start budget proof) old new end
