@@ -143,6 +143,11 @@ def test_the_sheet_is_one_page(planner: Planner, files: tuple[str, ...]) -> None
     wait(lambda: planner.driver.find_element(By.XPATH, "//button[text()='Issue plan 1']")).click()
     wait(lambda: planner.driver.find_element(By.LINK_TEXT, "Print sheet")).click()
     wait(lambda: planner.driver.execute_script("return document.body.dataset.ready") == "yes")
+    scheme(planner.driver, True)
+    ground = planner.driver.execute_script("""const svg = document.querySelector('.picture').shadowRoot.querySelector('svg');
+        return [...svg.querySelectorAll('text')].map((one) => getComputedStyle(one).fill).find((fill) => fill !== 'none')""")
+    assert ground in ("rgb(22, 34, 46)", "rgb(82, 97, 112)"), ground
+    scheme(planner.driver, False)
     paper = base64.b64decode(planner.driver.execute_cdp_cmd("Page.printToPDF", {"printBackground": True, "preferCSSPageSize": True})["data"])
     assert paper.count(b"/Type /Page\n") == 1
     planner.driver.execute_cdp_cmd("Emulation.setEmulatedMedia", {"media": "print", "features": [{"name": "prefers-color-scheme", "value": "dark"}]})

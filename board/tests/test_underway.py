@@ -241,3 +241,15 @@ def test_a_ship_that_the_plan_lacks(store: Store, runs: Runs) -> None:
     inputs = Inputs(run["instance"], run["tides"])
     watch = Watch(runs.program, inputs, port_of(runs.program, run["instance"]), runs.timetable(run["id"]) or [], [Sailed("Gone", 3)])
     assert watch.broken() == [[], []] and watch.noted() == ["Gone sailed at 00:45: this plan has no such ship"]
+
+
+def test_a_repair_and_what_it_holds_are_one(day: Day) -> None:
+    """The plan without the held ships is kept in the same step as the run: no kill can come between."""
+    pin = day.client.post(f"/api/run/{day.run}/pin", json={"pins": {"7": 40}}, headers=day.token).json["run"]
+    day.runs.wait(pin)
+    day.accept(pin)
+    with day.store.change() as db:
+        db.execute("CREATE TRIGGER no_hold BEFORE INSERT ON hold BEGIN SELECT RAISE(ABORT, 'a full disk'); END")
+    before = day.store.rows("SELECT id FROM run")
+    assert day.client.post(f"/api/plan/{day.plan}/repair", json={"now": 0}, headers=day.token).status_code == 500
+    assert day.store.rows("SELECT id FROM run") == before

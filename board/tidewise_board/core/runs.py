@@ -34,10 +34,12 @@ ENDED = ("done", "stopped", "interrupted", "failed")
 
 @dataclass(frozen=True)
 class Inputs:
-    """The bytes that a run is about: a port's, and the plan of a repair."""
+    """The bytes that a run is about: a port's, and the plan of a repair; `bare` is that plan without the ships that it holds for the
+    planner, which may so be held elsewhere later."""
     instance: str
     tides: str
     plan: str | None = None
+    bare: str | None = None
 
     def words(self) -> list[Word]:
         """The words after `port`."""
@@ -136,10 +138,13 @@ class Runs:
               base: int | None = None, pins: dict[int, int] | None = None) -> int:
         if budget not in BUDGETS:
             raise ValueError(budget)
-        number = self.store.insert(
-            "INSERT INTO run(day, input, base, kind, label, instance, tides, plan, pins, budget, program, state)"
-            " VALUES (?, ?, ?, ?, ?, ?, ?, ?, ?, ?, ?, 'waiting')", day, input_id, base, kind, label, inputs.instance, inputs.tides,
-            inputs.plan, json.dumps(pins or {}), budget, self.program.digest)
+        with self.store.change():
+            number = self.store.insert(
+                "INSERT INTO run(day, input, base, kind, label, instance, tides, plan, pins, budget, program, state)"
+                " VALUES (?, ?, ?, ?, ?, ?, ?, ?, ?, ?, ?, 'waiting')", day, input_id, base, kind, label, inputs.instance, inputs.tides,
+                inputs.plan, json.dumps(pins or {}), budget, self.program.digest)
+            if inputs.bare is not None:
+                self.store.insert("INSERT INTO hold(run, bare) VALUES (?, ?)", number, inputs.bare)
         (self.whatifs if kind == "whatif" else self.pool).submit(self._work, number)
         return number
 

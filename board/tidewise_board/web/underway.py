@@ -113,7 +113,6 @@ def repair(number: int) -> Any:
     made = watch.repair({int(ship): slot for ship, slot in json.loads(run["pins"]).items()})
     begun = here.runs.begin(run["day"], made.inputs, "repair", f"repair of plan {plan['number']}", REPAIR_BUDGET, run["input"], plan["run"],
                             made.pins)
-    here.store.insert("INSERT INTO hold(run, bare) VALUES (?, ?)", begun, here.store.put(made.bare.encode()))
     return {"run": begun, "noted": made.noted}
 
 
