@@ -204,7 +204,7 @@ class TestWhy:
         edit(port, "ships.csv", "100,11.00,17.20", "100,17.00,17.20")
         done = tw("why", "--in", port)
         assert done.status == 1
-        assert "Albatross out's own window and water: she can't sail at all: too little water: needs 1700 cm" in done.out
+        assert "Albatross out's own window and water: she can't sail at all: too little water: needs 17.00 m, at most 16.68 m at Bar" in done.out
 
     def test_time(self, tw: Tw, calls: str) -> None:
         done = tw("why", "Hector", "08:30", "--in", calls)

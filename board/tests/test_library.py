@@ -141,6 +141,13 @@ class TestCalls:
         found = port.instance_of(("ships.csv", f"{head}\n{first}\n"), ("port.json", text_of("port.json")))
         assert found["ships"] == json.loads(text_of("day.json"))["ships"][:1]
 
+    def test_separators(self) -> None:
+        row = "Grace,cape,2027-03-14 07:30,East,9:00,2027-03-14 18:00,1000,1100,1720,3,1:00"
+        same = made(f"{HEAD}\n{row}\n").instance
+        for mark in (";", "\t"):
+            table = f"{HEAD}\n{row}\n".replace(",", mark)
+            assert made(table).instance == made(f"sep={mark}\n# a remark, with commas\n{table}").instance == same
+
     def test_own_columns_of_a_movement(self) -> None:
         head = HEAD.replace("tugs,job", "tugs in,tugs out,job in,job out,route in,route out,may stay")
         found = made(f"{head}\nGrace,cape,,East,9:00,,1000,1100,1720,1,2,3,4,,out,yes\n")
@@ -237,6 +244,12 @@ class TestClock:
         ("2027-03-15 02:00", None, 1340), ("2027-03-15T02:00", None, 1340), ("Sun 03:00", None, 10040), ("1 Jan 03:40", None, -72 * 1440)])
     def test_minute(self, text: str, after: int | None, minute: int) -> None:
         assert self.CLOCK.minute(text, after) == minute
+
+    def test_order(self) -> None:
+        clock = Clock(self.CLOCK.start, 15, 288, "dmy")
+        assert [clock.minute(text) for text in ("15.03.2027 02:00", "2027-03-15 02:00", "15 Mar 02:00")] == [1340] * 3
+        with pytest.raises(Refused):
+            clock.minute("03/15/2027 02:00")
 
     @pytest.mark.parametrize("text", ["", "soon", "25:00", "30 Feb 02:00", "Xyz 02:00", "15 Mär 02:00", "T" * 100000, "1 2 3 02:00"])
     def test_refused(self, text: str) -> None:

@@ -9,11 +9,12 @@ from typing import Any, NoReturn
 import click
 
 from ..core.reading import Verdict, tonnes
-from ..core.shown import headline
+from ..core.shown import headline, triple
 from ..core.worth import Planned, Planning
 from ..library.bars import Bar, bars
 from ..library.faults import Refused
 from ..library.port import text_of
+from ..library.results import limits
 from ..library.trying import __doc__ as changes
 from ..library.trying import changes_of
 from ..library.whatif import processors
@@ -23,9 +24,9 @@ BUDGET = 100000
 HEAD = ["change", "result", "tonnes", "at most", "difference", "seconds"]
 RIGHT = frozenset({2, 3, 4, 5})
 RESULTS = {"optimal": "best", "infeasible": "nothing fits", "unfinished": "perhaps more"}
-HELP = f"""Says what each CHANGE would be worth: the day as it is and with each change is planned by a run of its own, and compared as `verify`
-says. Where one isn't closed within the limit, the difference is a range. Without changes they are a tug less, a tug more, and ten centimetres at each
-waypoint.
+HELP = f"""Says what each CHANGE would be worth: the day as it is and with each change is planned by a run of its own, and compared as
+`verify` says. Where one isn't closed within the limit, the difference is a range. Without changes they are a tug less, a tug more, and ten
+centimetres at each waypoint.
 
 \b
 {(changes or '').partition(chr(10) + chr(10))[2]}
@@ -90,27 +91,31 @@ class Worth:
 
     def limits(self, said: Verdict | None) -> tuple[int | None, int | None]:
         """By how much a change carries at least and at most more, as far as the two verdicts tell."""
-        if said is None:
-            return None, None
-        return (None if said.cargo is None or self.base.bound is None else said.cargo - self.base.bound,
-                None if said.bound is None or self.base.cargo is None else said.bound - self.base.cargo)
+        return limits(triple(self.base), triple(said))
 
     def difference(self, said: Verdict | None) -> str:
+        """What a change carries more, in tonnes: a number, or its limits."""
         least, most = self.limits(said)
         if least is not None and most is not None:
             return signed(least) if least == most else f"{signed(least)} to {signed(most)}"
         return f"at least {signed(least)}" if least is not None else f"at most {signed(most)}" if most is not None else ""
 
+    @staticmethod
+    def result(one: Planned) -> str:
+        return RESULTS[one.verdict.word] if one.verdict else one.refused
+
     def rows(self) -> list[list[str]]:
+        """The table, a row for each change."""
         rows = []
         for number, (name, one) in enumerate(zip(self.names, self.planned)):
             said = one.verdict
             bound = None if said is None or said.bound == said.cargo else said.bound
-            rows.append([name, RESULTS[said.word] if said else one.refused, "" if said is None or said.cargo is None else tonnes(said.cargo),
+            rows.append([name, self.result(one), "" if said is None or said.cargo is None else tonnes(said.cargo),
                          "" if bound is None else tonnes(bound), self.difference(said) if number else "", f"{one.seconds:.1f}"])
         return rows
 
     def members(self) -> dict[str, Any]:
+        """The same as JSON."""
         found = []
         for name, one in zip(self.names, self.planned):
             said, (least, most) = one.verdict, self.limits(one.verdict)
@@ -121,7 +126,7 @@ class Worth:
         return {"day": self.place.folder.day, "headline": headline(self.base, self.place.program.proved), "changes": found}
 
     def bars(self) -> list[Bar]:
-        return [Bar(name, *self.limits(one.verdict), self.difference(one.verdict) or (RESULTS[one.verdict.word] if one.verdict else one.refused))
+        return [Bar(name, *self.limits(one.verdict), self.difference(one.verdict) or self.result(one))
                 for name, one in zip(self.names[1:], self.planned[1:])]
 
 

@@ -7,7 +7,7 @@ from typing import Any
 
 import click
 
-from ..core.facts import in_words, matrix, said_of
+from ..core.facts import Port, in_words, matrix, said_of
 from ..core.pins import why_not
 from ..core.plans import own_inputs
 from ..core.reading import clash_of, flat_of, restrictions_of, timetable_of, windows_of
@@ -17,7 +17,7 @@ from ..library.clock import Clock
 from ..library.faults import Refused
 from .common import Place, asking_options, in_tonnes, place_of, say, say_json, ship_names, warn
 from .day import dated, standing
-from .windows import Windows, draft_of, slot_of, why_not as not_there
+from .windows import Windows, slot_of, why_not as not_there
 
 FITS, CLASHES, UNFINISHED = 0, 1, 2
 
@@ -68,7 +68,8 @@ def clash(place: Place) -> dict[str, Any]:
     for number in found.kept:
         without = {port.ships[ship]: port.clock(slot) for ship, slot in enumerate(found.drops.get(number, []))
                    if slot < port.slots and concerned(ship, found.kept, lines)}
-        answer["kept"].append({"said": in_words(lines[number], port) + shut(place, inputs, lines[number]), "without": without})
+        shut = never(place, inputs, lines[number], port)
+        answer["kept"].append({"said": in_words(lines[number], port) + shut, "without": without})
     return answer
 
 
@@ -81,7 +82,7 @@ def concerned(ship: int, kept: list[int], lines: list[str]) -> bool:
     return False
 
 
-def shut(place: Place, inputs: Inputs, line: str) -> str:
+def never(place: Place, inputs: Inputs, line: str, port: Port) -> str:
     """Of a ship that can sail in none of her slots, why not."""
     kind, *words = line.split(" ")
     if kind != "window":
@@ -89,10 +90,11 @@ def shut(place: Place, inputs: Inputs, line: str) -> str:
     stretches = windows_of(place.program.ask("windows", "port", *inputs.words()).output)[int(words[0])]
     if any(one.kind == "from" for one in stretches):
         return ""
-    return ": she can't sail at all: " + "; ".join(dict.fromkeys(said_of(one.kind, one.said) for one in stretches))
+    return ": she can't sail at all: " + "; ".join(dict.fromkeys(said_of(one.kind, one.said, port.clock) for one in stretches))
 
 
 def say_clash(answer: dict[str, Any], as_json: bool) -> int:
+    """Prints the clash, and returns the status."""
     if as_json:
         say_json(answer)
     elif answer["fits"]:
@@ -145,9 +147,9 @@ def at_time(place: Place, ship: int, slot: int) -> dict[str, Any]:
     flat = flat_of(place.program.ask("flatten", *inputs.words()).output)
     gone = gone_by(plan, ship, slot, clock) if plan else None
     answer: dict[str, Any] = {
-        "ship": place.folder.port.ships[ship], "time": clock.at(slot), "sails": sails and not gone, "draft_m": draft_of(stretch)[1] / 100 if sails else None,
-        "cargo_t": in_tonnes(flat.values[ship][slot]) if sails else None, "why": gone or (None if sails else not_there(stretch)), "plan": None,
-        "planned": None, "broken": None}
+        "ship": place.folder.port.ships[ship], "time": clock.at(slot), "sails": sails and not gone,
+        "draft_m": stretch.drafts[1] / 100 if sails else None, "cargo_t": in_tonnes(flat.values[ship][slot]) if sails else None,
+        "why": gone or (None if sails else not_there(stretch, clock)), "plan": None, "planned": None, "broken": None}
     if plan and answer["sails"]:
         answer.update(compared(place, plan, ship, slot))
     return answer
@@ -177,6 +179,7 @@ def names_in(place: Place, instance: str) -> list[str]:
 
 
 def say_time(here: dict[str, Any]) -> None:
+    """Prints what is said of a ship and a time."""
     if not here["sails"]:
         say(f"{here['ship']} can't sail at {here['time']}: {here['why']}")
         return

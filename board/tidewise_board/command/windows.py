@@ -68,6 +68,7 @@ def instance_of(text: str) -> dict[str, Any]:
 
 
 def slot_of(time: str, clock: Clock) -> int:
+    """The slot in which a time lies; `Refused` where it is outside the day."""
     slot = clock.slot_at(clock.minute(time))
     if not 0 <= slot < clock.slots:
         raise Refused(f"{time} isn't from {clock.at(0)} to {clock.at(clock.slots)}")
@@ -85,9 +86,10 @@ class Answer:
     @property
     def greatest(self) -> int | None:
         """The greatest draft with which she may sail in some slot."""
-        return max((draft_of(one)[1] for one in self.stretches if one.kind == "from"), default=None)
+        return max((one.drafts[1] for one in self.stretches if one.kind == "from"), default=None)
 
     def members(self) -> dict[str, Any]:
+        """The answer as JSON."""
         found = {"ship": self.ship["name"], "direction": self.ship["direction"], "stretches": list(map(self.stretch, self.stretches))}
         if self.draft is not None:
             found["load"] = {"draft_m": self.draft / 100, "times": [self.between(*times) for times in self.times]}
@@ -97,17 +99,19 @@ class Answer:
         return {"from": self.clock.at(first), "to": self.clock.at(last)}
 
     def stretch(self, one: Stretch) -> dict[str, Any]:
+        """A stretch as JSON."""
         if one.kind != "from":
-            return {**self.between(one.first, one.last), "why": why_not(one)}
-        least, greatest = draft_of(one)
+            return {**self.between(one.first, one.last), "why": why_not(one, self.clock)}
+        least, greatest = one.drafts
         return {**self.between(one.first, one.last), "least_m": least / 100, "greatest_m": greatest / 100, "full": one.said.endswith(" full")}
 
     def lines(self) -> list[str]:
+        """The answer in lines."""
         ship = self.ship
         drafts = metres(ship["light"]) if ship["direction"] == "incoming" else f"{metres(ship['light'])} to {metres(ship['deep'])}"
         lines = [f"{ship['name']}, {ship['direction']}, {drafts} m"]
         for one in self.stretches:
-            lines.append(f"  {self.said(one.first, one.last)}  {drafts_said(one) if one.kind == 'from' else why_not(one)}")
+            lines.append(f"  {self.said(one.first, one.last)}  {drafts_said(one) if one.kind == 'from' else why_not(one, self.clock)}")
         if self.draft is not None:
             full = " (full)" if self.draft == ship["deep"] else ""
             lines.append(f"  to load to {metres(self.draft)}{full}: "
@@ -121,19 +125,13 @@ class Answer:
         return self.clock.short(first) + ("" if first == last else f" to {self.clock.short(last)}")
 
 
-def why_not(one: Stretch) -> str:
+def why_not(one: Stretch, clock: Clock) -> str:
     """Why she can't sail in a stretch."""
-    return one.said if one.kind == OWN else said_of(one.kind, one.said)
-
-
-def draft_of(one: Stretch) -> tuple[int, int]:
-    """The least and the greatest draft of `from S M to S M draft LEAST GREATEST full`."""
-    words = one.said.split(" ")
-    return int(words[7]), int(words[8])
+    return one.said if one.kind == OWN else said_of(one.kind, one.said, clock.short)
 
 
 def drafts_said(one: Stretch) -> str:
-    least, greatest = draft_of(one)
+    least, greatest = one.drafts
     return f"{metres(least)} to {metres(greatest)} m" if least < greatest else f"{metres(greatest)} m"
 
 
@@ -152,6 +150,7 @@ class Windows:
         self.ships: list[dict[str, Any]] = instance_of(self.instance)["ships"]
 
     def answer(self, ship: int, draft: int | None) -> Answer:
+        """What is said of a ship, and of a draft in centimetres, if one is asked for."""
         here = self.ships[ship]
         if self.slot is not None:
             return Answer(here, self.at(ship, self.slot), self.place.folder.clock)

@@ -10,6 +10,7 @@ from typing import Any
 
 from ..library import port as port_script
 from ..library.base import start_of
+from ..library.dates import ORDERS
 from ..library.faults import Fault as Misplaced
 from ..library.faults import Refused, Wrong
 from ..library.faults import Told as At
@@ -286,7 +287,8 @@ def tides_text(source: Source, instance: str | None) -> tuple[str | None, list[T
         base = json.loads(source.base)
         start, minutes, said = start_of(base["start"]), int(base["slot_minutes"]), base.get("tides") or {}
         heights = json.loads(instance).get("heights") if instance else base.get("heights")
-        options = Options(source.dates or base.get("dates"), bool(said.get("feet")), heights == "start", bool(said.get("one_clock")))
+        order = source.dates or (base["dates"] if base.get("dates") in ORDERS else None)
+        options = Options(order, bool(said.get("feet")), heights == "start", bool(said.get("one_clock")))
     except (ValueError, KeyError, TypeError, AttributeError, RecursionError, Misplaced):
         return None, [Told("tide", "printed waters need the port's start and slot_minutes")]
     try:

@@ -10,7 +10,7 @@ from collections.abc import Iterable
 from dataclasses import dataclass
 from typing import Any
 
-from .facts import said_of
+from .facts import port_of, said_of
 from .program import Draft, Program, Text
 from .reading import Stretch, windows_of
 from .runs import Inputs
@@ -56,30 +56,30 @@ def _ship(program: Program, inputs: Inputs, ship: int) -> tuple[dict[str, Any], 
 
 def loading(program: Program, inputs: Inputs, ship: int) -> list[At]:
     """Each slot of a ship's own window."""
-    noted = program.noted("loading", inputs.instance, inputs.tides, str(ship))
+    noted = program.noted("loading 2", inputs.instance, inputs.tides, str(ship))
     if noted is None:
         noted = json.dumps([one.listed() for one in _told(program, inputs, ship)])
-        program.note(noted, "loading", inputs.instance, inputs.tides, str(ship))
+        program.note(noted, "loading 2", inputs.instance, inputs.tides, str(ship))
     return [At(*one) for one in json.loads(noted)]
 
 
 def _told(program: Program, inputs: Inputs, ship: int) -> list[At]:
     base, one = _ship(program, inputs, ship)
-    slots = range(one["earliest"], one["latest"] + 1)
+    slots, clock = range(one["earliest"], one["latest"] + 1), port_of(program, inputs.instance).clock
     own = _windows(program, base, inputs.tides, ({**one, "earliest": slot, "latest": slot} for slot in slots))
     # An incoming ship sails with one draft: so what the water allows is asked of one that goes out by the same route.
     free = {**one, "direction": "outgoing", "light": 0, "deep": DEEPEST}
     deepest = _windows(program, base, inputs.tides, ({**free, "earliest": slot, "latest": slot} for slot in slots))
     found = []
     for slot, (sails,), (most,) in zip(slots, own, deepest, strict=True):
-        why = "" if sails.kind == "from" else said_of(sails.kind, sails.said)
+        why = "" if sails.kind == "from" else said_of(sails.kind, sails.said, clock)
         found.append(At(slot, _draft(sails), _draft(most), why))
     return found
 
 
 def _draft(stretch: Stretch) -> int | None:
-    """The greatest draft of a stretch, `from S M to S M draft LEAST GREATEST full`."""
-    return int(stretch.said.split(" ")[8]) if stretch.kind == "from" else None
+    """The greatest draft with which she sails in a stretch; None of one in which she can't."""
+    return stretch.drafts[1] if stretch.kind == "from" else None
 
 
 def when(program: Program, inputs: Inputs, ship: int, draft: int) -> list[Stretch]:

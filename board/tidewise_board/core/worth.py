@@ -49,6 +49,7 @@ class Planning:
                 self.close()
 
     def one(self, instance: str) -> Planned:
+        """Plans one instance."""
         began = time.monotonic()
         inputs = Inputs(self.program.store.put(instance.encode()), self.tides)
         with tempfile.TemporaryDirectory(dir=self.program.store.folder) as folder:
@@ -77,6 +78,7 @@ class Planning:
                 self._runs.discard(run)
 
     def _verdict(self, inputs: Inputs, proof: str) -> Verdict | None:
+        """What `verify` says of a certificate; None where there is none, or it is refused."""
         if not os.path.exists(proof):
             return None
         whole_lines(proof)

@@ -39,6 +39,7 @@ def bars(title: str, rows: list[Bar]) -> str:
 
 
 def bar(row: Bar, top: int, across: Callable[[int], float]) -> list[str]:
+    """The lines of one row."""
     lines = [f'<text x="{LEFT - 12}" y="{top + 16}" text-anchor="end">{escape(row.name)}</text>',
              f'<text x="{WIDTH - 8}" y="{top + 16}" text-anchor="end">{escape(row.said)}</text>']
     if row.least is not None and row.most is not None:

@@ -80,6 +80,7 @@ def by_name(member: str, inner: str) -> Members:
 
 
 def base_schema() -> Members:
+    """The schema of a base file, with those of an instance in it."""
     properties = SCHEMA["properties"]
     waypoints = {"type": "array", "minItems": 1, "maxItems": 16, "items": {
         "type": "object", "additionalProperties": False, "required": ["name", "depth"],
@@ -136,6 +137,7 @@ def without_remarks(value: Any) -> Any:
 
 
 def start_of(text: str) -> int:
+    """The minute, from year 1, of `start`."""
     try:
         day, clock = text.split(" ")
         return minute_of(day, clock)

@@ -25,6 +25,7 @@ class Movements:
 
 
 def check_columns(table: Table) -> None:
+    """Refuses a head without what each call needs."""
     for column in CALL_NEEDED:
         if not table.has(column):
             raise Fault((table.head_row, column), "this column is missing")
@@ -34,6 +35,7 @@ def check_columns(table: Table) -> None:
 
 
 def movements_of_calls(table: Table, port: Port) -> Movements:
+    """The movements of all calls; one fault is told of each row."""
     check_columns(table)
     rows: list[Row] = []
     hints: list[Told] = []

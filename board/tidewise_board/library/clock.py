@@ -15,10 +15,12 @@ FORMS = "such as 14:05, 15 Mar 02:00, Mon 02:00 or 2027-03-15 02:00"
 
 @dataclass(frozen=True)
 class Clock:
-    """When slot 0 begins, in minutes from year 1; the minutes of a slot; and how many slots there are."""
+    """When slot 0 begins, in minutes from year 1; the minutes of a slot; how many slots there are; and the order in which the port
+    writes dates too."""
     start: int
     minutes: int
     slots: int
+    order: str | None = None
 
     @property
     def end(self) -> int:
@@ -73,6 +75,7 @@ class Clock:
         return self.day(rest).toordinal() * DAY + clock - self.start
 
     def weekday(self, name: str, clock: int, first: int) -> int:
+        """The minute from slot 0 of a time on the next day of this name, not before `first`, a minute from year 1."""
         wanted = DAYS.index(name[:3].lower())
         ordinal = first // DAY + (wanted - date.fromordinal(first // DAY).weekday()) % 7
         moment = ordinal * DAY + clock
@@ -82,7 +85,7 @@ class Clock:
         """A date as 2027-03-15, or as 15 Mar in the year nearest to slot 0."""
         found = re.fullmatch(r"([0-9]{1,2})\.? ([A-Za-z]{3})[a-z]*\.?(?: ([0-9]{4}))?", text)
         if not found:
-            return day_of(text)
+            return day_of(text) if self.order is None or re.match("[0-9]{4}-", text) else day_of(text, self.order)
         month = found[2].capitalize()
         if month not in MONTHS:
             raise Refused(f"{shortened(text)} is no date, such as 15 Mar")
@@ -95,6 +98,7 @@ class Clock:
 
     @staticmethod
     def made(year: int, month: int, day: int) -> date | None:
+        """The date, if there is one."""
         try:
             return date(year, month, day)
         except ValueError:

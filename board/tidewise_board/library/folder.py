@@ -122,6 +122,7 @@ class Reading:
             raise Wrong(Told(name, "this isn't text in UTF-8; a spreadsheet saves that as CSV UTF-8")) from None
 
     def bytes(self, name: str) -> bytes:
+        """A file's bytes, which are kept as one that was read."""
         path = os.path.join(self.root, name)
         try:
             # A pipe would never end.
@@ -272,7 +273,7 @@ def look(root: str, day: str | None = None) -> Looked:
     reading.told = list(map(in_folder, reading.told))
     if made is None or tides is None or log is None:
         return Looked(reading.told, None)
-    clock = Clock(made.port.start, made.port.minutes, made.port.slots)
+    clock = Clock(made.port.start, made.port.minutes, made.port.slots, made.port.order)
     return Looked(reading.told, Folder(root, clock.at(0)[:10], reading.sources, text_of(made.instance) + "\n", tides, names_of(made), clock,
                                        calls_in(made), reading.told, log, ships_name(root), made.rows))
 

@@ -65,9 +65,10 @@ def converted(text: str, column: str, unit: str) -> tuple[str, bool]:
 
 
 def under_head(rows: list[list[str]]) -> list[tuple[int, list[str]]]:
-    """The rows from the head on, each with its number from 1. What stands above the head is empty, or one cell that begins with #."""
+    """The rows from the head on, each with its number from 1. What stands above the head is empty, or one cell that begins with #, or the
+    `sep=;` of a spreadsheet."""
     numbered = list(enumerate(rows, 1))
-    while numbered and (not any(numbered[0][1]) or numbered[0][1][0].startswith("#") and not any(numbered[0][1][1:])):
+    while numbered and (not any(numbered[0][1]) or numbered[0][1][0].startswith(("#", "sep=")) and not any(numbered[0][1][1:])):
         del numbered[0]
     return numbered
 
@@ -103,6 +104,7 @@ class Table:
                 yield self.row(number, cells + [""] * (len(self.heads) - len(cells)))
 
     def row(self, number: int, cells: list[str]) -> Row:
+        """A row by its columns, in the units of an instance."""
         found, heads = {}, {}
         for (column, unit), head, cell in zip(self.heads, self.written, cells):
             if column.startswith("#"):
@@ -112,6 +114,7 @@ class Table:
         return Row(number, found, heads)
 
     def in_units(self, number: int, head: str, column: str, unit: str, cell: str) -> str:
+        """A cell in the unit of an instance; a hint is told where it was rounded."""
         try:
             text, rounded = converted(cell, column, unit)
         except Refused as cause:

@@ -54,6 +54,7 @@ def items_of(day: Day, kind: str, value: str) -> tuple[list[tuple[int, str]], in
 
 
 def fleets(day: Day, value: str) -> Iterator[Variant]:
+    """Other numbers of tugs."""
     found = re.fullmatch(r"([0-9]{1,4})(?:\.\.([0-9]{1,4}))?", value)
     if not found:
         raise Refused(f"fleet={value} is no number of tugs, as 7 or 4..8")
@@ -63,18 +64,21 @@ def fleets(day: Day, value: str) -> Iterator[Variant]:
 
 
 def deeper(day: Day, value: str) -> Iterator[Variant]:
+    """Deeper waypoints."""
     found, centimetres = items_of(day, "waypoints", value)
     for place, name in found:
         yield f"{name} {centimetres} cm deeper", deepened(day, place, centimetres)
 
 
 def later(day: Day, value: str) -> Iterator[Variant]:
+    """Later ships."""
     found, slots = items_of(day, "ships", value)
     for ship, name in found:
         yield f"{name} {slots} slots later", delayed(day, ship, slots)
 
 
 def closer(day: Day, value: str) -> Iterator[Variant]:
+    """Less separation."""
     if not re.fullmatch("-[0-9]{1,3}", value):
         raise Refused(f"separation={value} is no number of slots less, as -1")
     yield f"separation {value[1:]} less", with_less_separation(day, int(value[1:]))

@@ -32,6 +32,7 @@ def told_of(text: str, folder: Folder) -> list[Told]:
 
 
 def told_at(line: str, folder: Folder) -> Told:
+    """What a line says, at its place."""
     hint, said = line.startswith("hint "), line.removeprefix("hint ")
     for form, sentence in HINTS.items():
         found = re.fullmatch(form, said)

@@ -22,6 +22,7 @@ def tonnes(value: int | None) -> str:
 
 
 def result_of(report: str) -> Result:
+    """What a report says; the word is its first line where it is none of the known ones."""
     if re.match(r"bad instance ships\.[0-9]{1,9}\.(latest order|earliest range)\n", report):
         return "no slot is left", None, None
     number = r"([0-9]{1,18}\.[0-9])"
@@ -39,10 +40,15 @@ def signed(value: int) -> str:
     return ("-" if value < 0 else "+" if value else "") + tonnes(abs(value))
 
 
+def limits(day: Result, variant: Result) -> tuple[int | None, int | None]:
+    """Between which tenths of a tonne the variant's optimum less the day's lies, as far as the two results tell."""
+    return (None if variant[1] is None or day[2] is None else variant[1] - day[2],
+            None if variant[2] is None or day[1] is None else variant[2] - day[1])
+
+
 def difference(day: Result, variant: Result) -> str:
     """What the variant's optimum has more than the day's, as far as the two results tell."""
-    low = None if variant[1] is None or day[2] is None else variant[1] - day[2]
-    high = None if variant[2] is None or day[1] is None else variant[2] - day[1]
+    low, high = limits(day, variant)
     if low is not None and high is not None:
         return signed(low) if low == high else f"{signed(low)} to {signed(high)}"
     if low is not None:

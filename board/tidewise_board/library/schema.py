@@ -53,6 +53,7 @@ def no_name(value: str) -> str:
 
 
 def check_items(value: list[Any], schema: Any, place: Place) -> None:
+    """Raises the first fault of a list."""
     if not schema.get("minItems", 0) <= len(value) <= schema.get("maxItems", len(value)):
         raise Fault(place, f"there are {len(value)} items, and not {schema['minItems']} to {schema['maxItems']}")
     for number, item in enumerate(value):
@@ -60,6 +61,7 @@ def check_items(value: list[Any], schema: Any, place: Place) -> None:
 
 
 def check_members(value: dict[str, Any], schema: Any, place: Place) -> None:
+    """Raises the first fault of an object."""
     for member in value:
         if member not in schema.get("properties", {}) and schema.get("additionalProperties") is False:
             raise Fault((*place, member), "there is no such member")

@@ -60,6 +60,7 @@ def closed_in(text: str, port: Port) -> list[dict[str, int]]:
 
 
 def number_in(column: str, row: Row, port: Port) -> int:
+    """The number in a cell. What an incoming ship may leave out is 0, or her `light` draft."""
     text = row.cells[column]
     if not text and column in ("tpc", "deep") and row.cells["direction"].lower() == "incoming":
         return 0 if column == "tpc" else number_in("light", row, port)

@@ -25,6 +25,7 @@ CLOSING = re.compile(rb"l ;.*|[gp]|e [0-9]+|o [0-9]+ [0-9]+ [0-9]+", re.DOTALL)
 
 
 def is_running(pid: int) -> bool:
+    """Whether there is a process of this number."""
     try:
         os.kill(pid, 0)
     except ProcessLookupError:
@@ -87,6 +88,7 @@ def shown(lines: Iterator[bytes]) -> Iterator[str]:
 
 
 def main(words: list[str]) -> None:
+    """What the script watch.sh does with its words."""
     if not 1 <= len(words) <= 2 or not all(re.fullmatch("[0-9]{1,9}", word) for word in words[1:]):
         sys.exit(USAGE)
     try:

@@ -74,6 +74,7 @@ def waters_of(number: int, line: str, options: Options) -> list[Water]:
 
 
 def bytes_of(path: str, name: str) -> bytes:
+    """A file's bytes; `name` is what it is called in faults."""
     try:
         with open(path, "rb") as file:
             return file.read()
@@ -108,6 +109,7 @@ def step_of(waters: list[Water]) -> int | None:
 
 
 def check_steps(name: str, waters: list[Water], step: int) -> None:
+    """Refuses heights that don't stand at equal steps."""
     for before, water in zip(waters, waters[1:]):
         if water.time - before.time != step:
             raise at_line(name, water.line, f"this height comes {water.time - before.time} min after the one before, and the others "

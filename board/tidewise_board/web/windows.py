@@ -31,7 +31,7 @@ def windows_page(number: int) -> str:
         said = here.program.ask("windows", "port", *inputs.words()).output
         for name, direction, stretches in zip(port.ships, port.directions, windows_of(said), strict=True):
             ships.append({"name": name, "direction": direction, "can": [window(port, one) for one in stretches if one.kind == "from"],
-                          "not": [f"{span(port, one.first, one.last)}: {said_of(one.kind, one.said)}" for one in stretches if one.kind != "from"]})
+                          "not": [f"{span(port, one.first, one.last)}: {said_of(one.kind, one.said, port.clock)}" for one in stretches if one.kind != "from"]})
     return render_template("windows.html", day=day, page="windows", ships=ships, good=inputs is not None,
                            clock=[port.clock(slot) for slot in range(port.slots)] if port else [])
 
