@@ -6,6 +6,7 @@ import io
 from typing import Any
 
 from conftest import entered, example, planned
+from tidewise_board.core.bundle import opened
 from tidewise_board.core.changes import changes
 from tidewise_board.core.facts import port_of
 from tidewise_board.core.issue import cell
@@ -67,6 +68,15 @@ def test_a_calendar_needs_a_start(client: Any, store: Store, runs: Runs) -> None
     run = planned(store, runs, "day.json", "day-tides.csv")
     plan = client.post(f"/api/run/{run}/accept", json={}, headers=token).json["plan"]
     assert client.get(f"/plan/{plan}/sailings.ics").status_code == 404
+    # Nor where something was closed, for which the program wants a start.
+    client.post(f"/api/plan/{plan}/events", json={"kind": "closed", "where": "Bar", "first": 60, "last": 64, "now": 0}, headers=token)
+    repair = client.post(f"/api/plan/{plan}/repair", json={"now": 0}, headers=token).json["run"]
+    runs.wait(repair)
+    again = client.post(f"/api/run/{repair}/accept", json={}, headers=token).json["plan"]
+    client.post(f"/api/plan/{again}/freeze", json={}, headers=token)
+    assert client.get(f"/plan/{again}/sailings.ics").status_code == 404
+    assert "sailings.ics" not in opened(client.get(f"/plan/{again}/bundle.zip").data).files
+    assert "04:15" in client.get(f"/plan/{again}/sailings.txt").data.decode()
 
 
 def test_changes_between_line_ups(store: Store, runs: Runs) -> None:

@@ -70,13 +70,13 @@ def test_every_day_is_asked(client: Any, runs: Runs) -> None:
     token = entered(client)
     planned_day(client, runs, token)
     planned_day(client, runs, token)
-    begun = client.post("/api/owner/whatif", json={"from": "05:00", "to": "06:00"}, headers=token).json["runs"]
-    assert len(begun) == 10 and client.post("/api/owner/whatif", json={"from": "x", "to": "6"}, headers=token).status_code == 400
+    begun = client.post("/api/owner/whatif", json={"changes": ["close=05:00-06:00"]}, headers=token).json["runs"]
+    assert len(begun) == 10 and client.post("/api/owner/whatif", json={"changes": ["close=x"]}, headers=token).status_code == 400
     for run in begun:
         runs.wait(run)
     rows = client.get("/api/owner").json["rows"]
     for row in rows:
         worth = {one["label"]: one["tenths"] for one in row["whatifs"]}
-        assert worth["Bar 10 cm deeper"] == 40580 and worth["port closed 05:00 to 06:00"] < 0
+        assert worth["Bar 10 cm deeper"] == 40580 and min(value for value in worth.values() if value is not None) < 0, worth
     table = list(csv.DictReader(io.StringIO(client.get("/owner.csv").data.decode())))
     assert len(table) == 12 and {row["difference t"] for row in table if row["variant"] == "Bar 10 cm deeper"} == {"4058.0"}

@@ -6,9 +6,11 @@ import io
 import json
 import os
 import re
+import shutil
 import stat
 import subprocess
 import sys
+import tempfile
 import zipfile
 from collections.abc import Callable
 from typing import Any
@@ -65,6 +67,42 @@ def test_another_user_without_the_key(client: Any, tmp_path: object) -> None:
     key = key_of(folder)
     assert len(key) >= 32 and key_of(folder) == key
     assert stat.S_IMODE(os.stat(folder).st_mode) == 0o700 and stat.S_IMODE(os.stat(os.path.join(folder, "key")).st_mode) == 0o600
+
+
+@pytest.mark.skipif(os.geteuid() != 0, reason="only root can be another user")
+def test_another_user_of_this_machine(tmp_path: object) -> None:
+    """Whoever has another account reaches the port, and neither page nor folder."""
+    folder = tempfile.mkdtemp(dir="/tmp")
+    os.chmod(folder, 0o755)
+    board = Served(8473, data=os.path.join(folder, "data"))
+    script = """
+import os, sys, urllib.error, urllib.request
+for path in ("/", "/api/owner", "/wall"):
+    try:
+        urllib.request.urlopen(sys.argv[1] + path)
+        print("open", path)
+    except urllib.error.HTTPError as refused:
+        print(refused.code)
+for name in ("key", "board.db", "."):
+    try:
+        print("read", os.listdir(sys.argv[2]) if name == "." else open(os.path.join(sys.argv[2], name), "rb").read())
+    except PermissionError:
+        print("closed")
+def words(process):
+    try:
+        return open(f"/proc/{process}/cmdline").read()
+    except OSError:
+        return ""
+print(any(sys.argv[3] in words(one) for one in os.listdir("/proc") if one.isdigit() and int(one) != os.getpid()))
+"""
+    try:
+        key = board.url.partition("key=")[2]
+        said = subprocess.run(["/usr/bin/python3", "-c", script, board.origin, board.data, key[:-1]], user=65534, group=65534, extra_groups=[], cwd="/",
+                              capture_output=True, text=True, timeout=60, check=True)
+        assert said.stdout.split() == ["403"] * 3 + ["closed"] * 3 + ["False"], said
+    finally:
+        board.stop()
+        shutil.rmtree(folder)
 
 
 def test_who_only_looks_on(client: Any, store: Store, runs: Runs) -> None:

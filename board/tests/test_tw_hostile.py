@@ -95,6 +95,7 @@ def test_a_kill_in_the_middle(tw: Tw, hard: str) -> None:
     assert done.status == 2 and "plan 1, in " in done.out and not searching(hard)
 
 
+@pytest.mark.slow
 def test_a_kill_at_any_moment(tw: Tw, tmp_path: object) -> None:
     """Whatever stands there after it is whole, and the next run makes the plan."""
     folder = calls(os.path.join(str(tmp_path), "port"))
@@ -154,7 +155,7 @@ def fill(path: str, left: int) -> str:
     return name
 
 
-@pytest.mark.parametrize("left", [0, 16 << 10, 64 << 10, 160 << 10])
+@pytest.mark.parametrize("left", [0, pytest.param(16 << 10, marks=pytest.mark.slow), 64 << 10, pytest.param(160 << 10, marks=pytest.mark.slow)])
 def test_a_full_disk(tw: Tw, small: str, left: int) -> None:
     folder = calls(os.path.join(small, "port"))
     assert tw("plan", folder).status == 0
@@ -201,7 +202,7 @@ NAMES = ["$(touch pwned)", "`touch pwned`", "=cmd|' /C calc'!A0", "</svg><script
          "tugs", "not before", "../../etc", "%s{0}"]
 
 
-@pytest.mark.parametrize("name", NAMES)
+@pytest.mark.parametrize("name", [*NAMES[:4], *(pytest.param(name, marks=pytest.mark.slow) for name in NAMES[4:])])
 def test_any_name_is_only_a_name(tw: Tw, port: str, name: str) -> None:
     with open(os.path.join(port, "ships.csv"), encoding="utf-8", newline="") as file:
         rows = list(csv.reader(file))
@@ -289,7 +290,8 @@ def test_one_that_claims_a_proof_it_doesnt_have(tw: Tw, hard: str, tmp_path: obj
 
 
 @pytest.mark.parametrize("form", ["--version", "lint", "flatten", "prove", "verify", "chart", "table", "explain"])
-@pytest.mark.parametrize("babble", ["echo garbage", "echo; exit 77", "/usr/bin/head -c 20000000 /dev/zero", "kill -9 $$", "/usr/bin/printf '\\377\\376'"])
+@pytest.mark.parametrize("babble", ["echo garbage", *(pytest.param(one, marks=pytest.mark.slow) for one in (
+    "echo; exit 77", "/usr/bin/head -c 20000000 /dev/zero", "kill -9 $$", "/usr/bin/printf '\\377\\376'"))])
 def test_one_that_babbles(tw: Tw, port: str, tmp_path: object, form: str, babble: str) -> None:
     """Nothing is said to be more than it is, and there is no traceback."""
     fake = script(tmp_path, f'case $1 in {form}) {babble};; *) exec REAL "$@";; esac')

@@ -212,6 +212,7 @@ def test_who_did_what(day: Day) -> None:
     assert [tuple(deed) for deed in deeds] == [("somebody", "made it plan 1: day"), ("Änne </b>", "told: Ibis sailed at 00:00"),
                                                ("Änne </b>", "kept plan 1, and not its repair")]
     page = day.client.get("/day/1/underway").data.decode()
+    assert "UTC, somebody</span>" in page
     assert "Änne &lt;/b&gt;" in page and "Änne </b>" not in page
     for sql in ("UPDATE deed SET who = 'x'", "DELETE FROM deed"):
         with pytest.raises(Exception, match="stays"), day.store.change() as db:
@@ -240,3 +241,15 @@ def test_a_ship_that_the_plan_lacks(store: Store, runs: Runs) -> None:
     inputs = Inputs(run["instance"], run["tides"])
     watch = Watch(runs.program, inputs, port_of(runs.program, run["instance"]), runs.timetable(run["id"]) or [], [Sailed("Gone", 3)])
     assert watch.broken() == [[], []] and watch.noted() == ["Gone sailed at 00:45: this plan has no such ship"]
+
+
+def test_a_repair_and_what_it_holds_are_one(day: Day) -> None:
+    """The plan without the held ships is kept in the same step as the run: no kill can come between."""
+    pin = day.client.post(f"/api/run/{day.run}/pin", json={"pins": {"7": 40}}, headers=day.token).json["run"]
+    day.runs.wait(pin)
+    day.accept(pin)
+    with day.store.change() as db:
+        db.execute("CREATE TRIGGER no_hold BEFORE INSERT ON hold BEGIN SELECT RAISE(ABORT, 'a full disk'); END")
+    before = day.store.rows("SELECT id FROM run")
+    assert day.client.post(f"/api/plan/{day.plan}/repair", json={"now": 0}, headers=day.token).status_code == 500
+    assert day.store.rows("SELECT id FROM run") == before

@@ -186,9 +186,9 @@ class Keyboard:
         for event in events:
             self.driver.execute_cdp_cmd("Input.dispatchKeyEvent", event)
 
-    def key(self, name: str, code: int, text: str = "") -> None:
+    def key(self, name: str, code: int, text: str = "", modifiers: int = 0) -> None:
         for kind in ("keyDown", "keyUp"):
-            self.driver.execute_cdp_cmd("Input.dispatchKeyEvent", {"type": kind, "key": name, "code": name, "windowsVirtualKeyCode": code,
+            self.driver.execute_cdp_cmd("Input.dispatchKeyEvent", {"type": kind, "key": name, "code": name, "windowsVirtualKeyCode": code, "modifiers": modifiers,
                                                                    **({"text": text} if text and kind == "keyDown" else {})})
 
     def enter(self) -> None:
@@ -222,25 +222,35 @@ def test_the_same_by_keys_alone(served: Served, tmp_path: object) -> None:
     wait(lambda: "/plan/" in planner.driver.current_url and planner.text("headline") == BEST)
     planner.settled()
 
-    # Heron's row: two slots on, and held there.
-    keys.tab_to("rect.hit[data-ship='7']")
-    now = keys.focused().get_attribute("aria-valuenow")
-    keys.key("ArrowRight", 39)
-    keys.key("ArrowRight", 39)
-    wait(lambda: keys.focused().get_attribute("aria-valuenow") == str(int(now) + 2))
-    keys.enter()
-    wait(lambda: "Heron held at" in planner.text("pins"))
+    # Albatross's row: an hour on, and held there; Bittern at the same time clashes; back.
+    slot = hold(keys, 0, [("PageUp", 33)])
+    wait(lambda: "Albatross held at" in planner.text("pins"))
+    planner.settled()
+    held = planner.text("headline")
+    keys.tab_to("rect.hit[data-ship='1']")
+    keys.key("Home", 36)
+    hold(keys, 1, [("PageUp", 33)] * (slot // 4) + [("ArrowRight", 39)] * (slot % 4))
+    wait(lambda: planner.text("headline") == "Nothing fits, proved")
+    planner.settled()
+    assert "Bittern is held in slot" in planner.text("why")
+    keys.key("z", 90, modifiers=2)
+    wait(lambda: planner.text("headline") == held)
     planner.settled()
     keys.tab_to("#accept")
     keys.enter()
     planner.underway()
 
     keys.choose("#event [name=kind]", "not before")
-    keys.choose("#event [name=ship]", "Curlew")
-    keys.choose("#event [name=slot]", "18:30")
+    keys.choose("#event [name=ship]", "Fulmar")
+    keys.choose("#event [name=slot]", "17:30")
     keys.tab_to("#event button")
     keys.enter()
-    wait(lambda: "Curlew not before 18:30" in planner.text("events"))
+    wait(lambda: "Fulmar not before 17:30" in planner.text("events"))
+    keys.choose("#event [name=kind]", "stays")
+    keys.choose("#event [name=ship]", "Curlew")
+    keys.tab_to("#event button")
+    keys.enter()
+    wait(lambda: "Curlew stays" in planner.text("events"))
     keys.tab_to("#repair")
     keys.enter()
     wait(lambda: planner.at("accept").is_enabled())
@@ -258,10 +268,30 @@ def test_the_same_by_keys_alone(served: Served, tmp_path: object) -> None:
     wait(lambda: "/audit" in planner.driver.current_url)
     keys.tab_to("#files").send_keys(path)
     wait(lambda: planner.text("headline").startswith("Proved best: ") and "NO:" not in planner.text("steps"))
-    planner.go("/day/1/tomorrow")
-    assert "Can’t be taken over" in planner.driver.find_element(By.TAG_NAME, "main").text
+    keys.tab_to("nav a[href='/']")
+    keys.enter()
+    keys.tab_to("td a[href='/day/1']")
+    keys.enter()
+    wait(lambda: planner.driver.current_url.endswith("/day/1"))
+    keys.tab_to("nav a[href$='/tomorrow']")
+    keys.enter()
+    wait(lambda: planner.at("roll").is_enabled())
+    keys.tab_to("#roll")
+    keys.enter()
+    wait(lambda: planner.driver.current_url.endswith("/day/2"))
+    wait(lambda: planner.driver.find_element(By.CSS_SELECTOR, "[aria-label='name of ship 0']").get_attribute("value") == "Curlew")
     assert not planner.faults()
     planner.close()
+
+
+def hold(keys: Keyboard, ship: int, moves: list[tuple[str, int]]) -> int:
+    """Goes to a ship's row, moves there, and holds the ship with Enter; the slot."""
+    keys.tab_to(f"rect.hit[data-ship='{ship}']")
+    for name, code in moves:
+        keys.key(name, code)
+    slot = int(keys.focused().get_attribute("aria-valuenow"))
+    keys.enter()
+    return slot
 
 
 def test_a_name_is_asked_once(served: Served) -> None:

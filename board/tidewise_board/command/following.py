@@ -10,7 +10,7 @@ from types import FrameType
 
 from ..core import race
 from ..core.reading import tonnes
-from ..core.runs import ENDED, Runs
+from ..core.runs import Runs
 from .common import terminal
 
 # How often a search is looked at, in seconds: often at first, since most days are planned at once.
@@ -58,7 +58,7 @@ def follow(runs: Runs, leader: int, limit: float, ended: Ended) -> None:
     """Waits for a race or a single run, and stops it at the limit, in seconds, or where that was asked for. On a terminal a line on standard
     error says how far it is."""
     began, shown = time.monotonic(), False
-    while leader in runs.races or runs.get(leader)["state"] not in ENDED:
+    while leader in runs.races or not runs.over(leader):
         past = time.monotonic() - began
         if ended.asked or past > limit:
             race.stop(runs, leader)
@@ -70,3 +70,6 @@ def follow(runs: Runs, leader: int, limit: float, ended: Ended) -> None:
     if shown:
         sys.stderr.write(f"\r{'':<{WIDTH}}\r")
         sys.stderr.flush()
+    trouble = runs.trouble(leader)
+    if trouble is not None:
+        raise trouble

@@ -43,7 +43,6 @@ def repaired(place: Place, runs: Runs, plan: sqlite3.Row, watch: Watch, limit: f
     with ended_by_signals() as ended:
         number = runs.begin(run["day"], made.inputs, "repair", f"repair of plan {plan['number']}", BUDGET, run["input"], plan["run"], made.pins)
         with place.store.change() as db:
-            db.execute("INSERT INTO hold(run, bare) VALUES (?, ?)", (number, place.store.put(made.bare.encode())))
             db.execute("INSERT INTO told(run, events) VALUES (?, ?)", (number, json.dumps([kept_of(one) for one in watch.events])))
         follow(runs, number, limit, ended)
     return number, made.noted

@@ -24,3 +24,9 @@ def did(store: Store, day: int, who: str, what: str) -> None:
 def deeds_of(store: Store, day: int, most: int = 200) -> list[sqlite3.Row]:
     """What was done on a day, the latest first; times are those of the machine in UTC."""
     return store.rows("SELECT made, who, what FROM deed WHERE day = ? ORDER BY id DESC LIMIT ?", day, most)
+
+
+def makers_of(store: Store, day: int) -> dict[int, str]:
+    """Who made each plan of a day."""
+    rows = store.rows("SELECT who, what FROM deed WHERE day = ? AND what LIKE 'made it plan %'", day)
+    return {int(row["what"].removeprefix("made it plan ").partition(":")[0]): row["who"] for row in rows}

@@ -5,15 +5,13 @@ import csv
 import io
 import json
 from dataclasses import dataclass
-from datetime import datetime
 from typing import Any
 
 from .changes import depth
-from .facts import Port
+from .facts import Port, minute_of
 
 # A cell that begins so would be a formula in a spreadsheet.
 FORMULA = ("=", "+", "-", "@", "\t", "\r")
-DATE = "%Y-%m-%d %H:%M"
 SENSE = {"outgoing": "out", "incoming": "in"}
 
 
@@ -56,14 +54,6 @@ def sailings(port: Port, instance: bytes, table: list[dict[str, str]]) -> list[S
                              plain(row.get("limiting waypoint", "")), int(ship["tugs"]), span(int(ship["job"]) * port.minutes),
                              row.get("cargo t", "")))
     return sorted(found, key=lambda one: (one.slot is None, one.slot or 0, one.name))
-
-
-def minute_of(text: str, port: Port) -> int:
-    """The minute from slot 0 that the table says: as such, or as a date of a port with a start."""
-    if not port.start:
-        return int(text)
-    begin, at = (datetime.strptime(one.replace("T", " "), DATE) for one in (port.start, text))
-    return round((at - begin).total_seconds()) // 60
 
 
 def plain(name: str) -> str:

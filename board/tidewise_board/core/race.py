@@ -8,7 +8,7 @@ from collections.abc import Callable
 
 from .program import Failed
 from .reading import Unread
-from .runs import ENDED, Inputs, Runs
+from .runs import Inputs, Runs
 from .store import Damaged
 
 # Seconds that the first search has for itself: most days are planned within them.
@@ -79,7 +79,7 @@ def _early(runs: Runs, leader: int) -> bool:
     end = None
     while True:
         state = runs.get(leader)["state"]
-        if state in ENDED or leader in runs.asked or runs.ending:
+        if runs.over(leader) or leader in runs.asked or runs.ending:
             return True
         if state == "running":
             end = end or time.monotonic() + HEAD_START
@@ -92,7 +92,7 @@ def _follow(runs: Runs, leader: int) -> None:
     """Waits for all searches, and stops the rest once one has closed the day."""
     while True:
         numbers = members(runs, leader)
-        open_now = [number for number in numbers if runs.get(number)["state"] not in ENDED]
+        open_now = [number for number in numbers if not runs.over(number)]
         if not open_now:
             return
         if leader in runs.asked or runs.ending or any(_closed(runs, number) for number in numbers if number not in open_now):

@@ -11,7 +11,7 @@ import sys
 import tempfile
 import threading
 import time
-from concurrent.futures import ThreadPoolExecutor
+from concurrent.futures import Future, ThreadPoolExecutor
 from dataclasses import dataclass
 
 from ..library import CHECKER
@@ -34,10 +34,12 @@ ENDED = ("done", "stopped", "interrupted", "failed")
 
 @dataclass(frozen=True)
 class Inputs:
-    """The bytes that a run is about: a port's, and the plan of a repair."""
+    """The bytes that a run is about: a port's, and the plan of a repair; `bare` is that plan without the ships that it holds for the
+    planner, which may so be held elsewhere later."""
     instance: str
     tides: str
     plan: str | None = None
+    bare: str | None = None
 
     def words(self) -> list[Word]:
         """The words after `port`."""
@@ -100,6 +102,8 @@ class Runs:
         # The further searches of a race: as many as there are processors, since only idle ones are taken.
         self.racers = ThreadPoolExecutor(os.cpu_count() or 2, "racer")
         self.seconds = ThreadPoolExecutor(1, "second")
+        # What was begun here: done once a run has ended, also where its end couldn't be kept.
+        self.work: dict[int, Future[None]] = {}
         self.followers: dict[int, Follower] = {}
         self.asked: set[int] = set()
         # The first runs of the races that are under way.
@@ -136,11 +140,14 @@ class Runs:
               base: int | None = None, pins: dict[int, int] | None = None) -> int:
         if budget not in BUDGETS:
             raise ValueError(budget)
-        number = self.store.insert(
-            "INSERT INTO run(day, input, base, kind, label, instance, tides, plan, pins, budget, program, state)"
-            " VALUES (?, ?, ?, ?, ?, ?, ?, ?, ?, ?, ?, 'waiting')", day, input_id, base, kind, label, inputs.instance, inputs.tides,
-            inputs.plan, json.dumps(pins or {}), budget, self.program.digest)
-        (self.whatifs if kind == "whatif" else self.pool).submit(self._work, number)
+        with self.store.change():
+            number = self.store.insert(
+                "INSERT INTO run(day, input, base, kind, label, instance, tides, plan, pins, budget, program, state)"
+                " VALUES (?, ?, ?, ?, ?, ?, ?, ?, ?, ?, ?, 'waiting')", day, input_id, base, kind, label, inputs.instance, inputs.tides,
+                inputs.plan, json.dumps(pins or {}), budget, self.program.digest)
+            if inputs.bare is not None:
+                self.store.insert("INSERT INTO hold(run, bare) VALUES (?, ?)", number, inputs.bare)
+        self.work[number] = (self.whatifs if kind == "whatif" else self.pool).submit(self._work, number)
         return number
 
     def begin_by_hand(self, day: int, inputs: Inputs, label: str, budget: int, input_id: int | None) -> tuple[int, str]:
@@ -162,7 +169,7 @@ class Runs:
             "INSERT INTO run(day, input, base, kind, label, instance, tides, plan, pins, budget, program, state, seed, race)"
             " VALUES (?, ?, ?, 'race', ?, ?, ?, ?, ?, ?, ?, 'waiting', ?, ?)", first["day"], first["input"], first["base"], first["label"],
             first["instance"], first["tides"], first["plan"], first["pins"], first["budget"], first["program"], seed, first["id"])
-        self.racers.submit(self._work, number)
+        self.work[number] = self.racers.submit(self._work, number)
         return number
 
     def words_of(self, run: sqlite3.Row) -> list[Word]:
@@ -280,6 +287,15 @@ class Runs:
             self._set(number, second=done.stdout.strip()[:200] or "no answer")
         except subprocess.TimeoutExpired:
             self._set(number, second=f"not within {SECOND_PATIENCE} seconds")
+
+    def over(self, number: int) -> bool:
+        """Whether a run has ended, also where that couldn't be kept."""
+        return number in self.work and self.work[number].done() or self.get(number)["state"] in ENDED
+
+    def trouble(self, number: int) -> BaseException | None:
+        """Why the end of a run couldn't be kept: a full disk, or a store that can't be written."""
+        work = self.work.get(number)
+        return work.exception() if work is not None and work.done() and not work.cancelled() else None
 
     def second_now(self, number: int) -> None:
         """Asks the second checker at once, where it takes such a run and hasn't answered yet."""

@@ -31,9 +31,8 @@ class State:
 
 @dataclass(frozen=True)
 class Repair:
-    """What a repair is asked for. `bare` is the plan without the pins, which stay held in `inputs`; `noted` are sentences for the planner."""
+    """What a repair is asked for, with the ships that stay held; `noted` are sentences for the planner."""
     inputs: Inputs
-    bare: str
     pins: dict[int, int]
     noted: list[str]
 
@@ -168,8 +167,8 @@ class Watch:
                 why = "it stays" if ship in state.stays else f"not before {self.port.clock(first)}"
                 noted.append(f"{self.port.ships[ship]} is no longer held at {self.port.clock(pins[ship])}: {why}")
             with_pins.append(now)
-        text = self.program.store.put(plan_text(with_pins, withdrawn).encode())
-        return Repair(Inputs(self.instance(), self.inputs.tides, text), plan_text(bare, withdrawn), held, noted)
+        texts = [self.program.store.put(plan_text(one, withdrawn).encode()) for one in (with_pins, bare)]
+        return Repair(Inputs(self.instance(), self.inputs.tides, *texts), held, noted)
 
 
 def refused(answer: Answer) -> str:

@@ -12,7 +12,7 @@ from flask import Blueprint, Response, abort, render_template
 from .app import board, said
 from .day import day_of
 from .names import noted, who
-from .whatifs import begin, listed
+from .whatifs import begin, listed, words_of
 from ..core.changes import signed
 from ..core.facts import Port, port_of
 from ..core.hand import ByHand, judged, slots_of
@@ -20,6 +20,7 @@ from ..core.issue import cell
 from ..core.reading import tonnes
 from ..core.runs import Inputs, flat_problem
 from ..core.shown import build_words, seal, shown
+from ..library.trying import USUAL
 from ..library.trying import USUAL
 
 pages = Blueprint("owner", __name__)
@@ -78,13 +79,9 @@ def last_hand(day: int, run: sqlite3.Row) -> ByHand | None:
 
 @pages.post("/api/owner/whatif")
 def everywhere() -> Any:
-    """Asks the same of every day: a tug more and less, ten centimetres more, and the port closed between two times of the clock."""
-    asked, begun = said(), []
-    times = [str(asked.get(name) or "") for name in ("from", "to")]
-    words = [*USUAL, f"close={times[0]} to {times[1]}"] if all(times) else []
-    for _, run in planned_days():
-        begun += begin(run, words)
-    return {"runs": begun}
+    """Asks the same of every day: a tug more and less and ten centimetres more, and these changes, in the words of `tw try`."""
+    words = words_of(said().get("changes", []))
+    return {"runs": [run for _, plan in list(planned_days()) for run in begin(plan, [*USUAL, *words])]}
 
 
 @pages.post("/api/owner/hand/<int:number>")

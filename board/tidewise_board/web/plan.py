@@ -3,6 +3,7 @@ from __future__ import annotations
 
 import json
 import sqlite3
+from dataclasses import replace
 from typing import Any
 
 from flask import Blueprint, Response, abort, render_template
@@ -10,7 +11,7 @@ from flask import Blueprint, Response, abort, render_template
 from .day import day_of
 from ..core import race
 from ..core.facts import facts, port_of
-from ..core.pins import bare_of, pinned, why_not
+from ..core.pins import bare_of, held_of, pinned, why_not
 from ..core.program import Text
 from ..core.runs import ENDED, Inputs, inputs_of
 from ..core.shown import picture_words, root_of, seal, shown, worth
@@ -111,8 +112,9 @@ def resume(number: int) -> Any:
     if run["plan"] is None:
         return {"run": here.runs.begin(run["day"], inputs_of(run), "plan", f"{run['label']}, gone on", budget, run["input"], number)}
     pins = {int(ship): slot for ship, slot in json.loads(run["pins"]).items()}
-    return {"run": race.join(here.runs, lambda: here.runs.begin(run["day"], inputs_of(run), run["kind"], run["label"], budget, run["input"],
-                                                                run["base"], pins))}
+    inputs = replace(inputs_of(run), bare=held_of(here.store, run))
+    return {"run": race.join(here.runs, lambda: here.runs.begin(run["day"], inputs, run["kind"], run["label"], budget, run["input"], run["base"],
+                                                                pins))}
 
 
 @pages.get("/api/run/<int:number>/why")

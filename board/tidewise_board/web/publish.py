@@ -77,7 +77,7 @@ def head_of(issue: Issue, run: dict[str, Any]) -> Head:
 def publish(number: int) -> str:
     here = board()
     rows = [{"plan": plan, "run": shown(here.runs, plan["run"]), "issue": issue_of(plan),
-              "dated": port_of(here.program, here.runs.get(plan["run"])["instance"]).start is not None} for plan in reversed(plans.plans_of(here.store, number))]
+              "dated": port_of(here.program, here.runs.get(plan["run"])["instance"]).dated} for plan in reversed(plans.plans_of(here.store, number))]
     return render_template("publish.html", day=day_of(number), plans=rows, page="publish", deeds=deeds_of(here.store, number, 20))
 
 

@@ -13,7 +13,7 @@ from .day import day_of
 from .names import noted, who
 from ..core import plans
 from ..core.changes import changes, signed
-from ..core.deeds import deeds_of
+from ..core.deeds import deeds_of, makers_of
 from ..core.facts import port_of
 from ..core.happened import event_of, kept_of
 from ..core.shown import shown, table_of
@@ -57,7 +57,9 @@ def underway(number: int) -> str:
     here = board()
     rows = plans.plans_of(here.store, number)
     port = port_of(here.program, plans.own_inputs(here.store, here.runs.get(rows[-1]["run"])).instance) if rows else None
-    return render_template("underway.html", day=day_of(number), plans=[{"plan": plan, "run": shown(here.runs, plan["run"])} for plan in rows], port=port, page="underway",
+    makers = makers_of(here.store, number)
+    shown_plans = [{"plan": plan, "run": shown(here.runs, plan["run"]), "maker": makers.get(plan["number"], "")} for plan in rows]
+    return render_template("underway.html", day=day_of(number), plans=shown_plans, port=port, page="underway",
                            deeds=deeds_of(here.store, number), clock=[port.clock(slot) for slot in range(port.slots + 1)] if port else [])
 
 
@@ -111,7 +113,6 @@ def repair(number: int) -> Any:
     made = watch.repair({int(ship): slot for ship, slot in json.loads(run["pins"]).items()})
     begun = here.runs.begin(run["day"], made.inputs, "repair", f"repair of plan {plan['number']}", REPAIR_BUDGET, run["input"], plan["run"],
                             made.pins)
-    here.store.insert("INSERT INTO hold(run, bare) VALUES (?, ?)", begun, here.store.put(made.bare.encode()))
     return {"run": begun, "noted": made.noted}
 
 

@@ -25,17 +25,18 @@ export class Happened {
   /** Takes a ship that was pointed at in the picture. */
   take(ship) {
     const {kind, ship: field} = this.form.elements;
-    if (!['sailed', 'not before', 'stays'].includes(kind.value)) kind.value = 'sailed';
+    if (!['sailed', 'not before', 'stays', 'surveyed'].includes(kind.value)) kind.value = 'sailed';
     field.value = this.ships[ship];
     this.fields('ship');
     kind.focus();
   }
 
   asked() {
-    const {kind, ship, count, where, slot, first, last} = this.form.elements, number = (field) => Number(field.value);
+    const {kind, ship, count, where, slot, first, last, deep} = this.form.elements, number = (field) => Number(field.value);
     const end = last.value === '' ? null : number(last);
     return {kind: kind.value, ...{
       sailed: {ship: ship.value, slot: number(slot)}, 'not before': {ship: ship.value, slot: number(slot)}, stays: {ship: ship.value},
+      surveyed: {ship: ship.value, deep: Math.round(100 * number(deep))},
       'tugs out': {count: number(count), first: number(first), last: end}, 'tugs back': {count: number(count), slot: number(slot)},
       closed: {where: where.value || null, first: number(first), last: end},
     }[kind.value]};
@@ -52,11 +53,13 @@ export class Happened {
   }
 
   list(answer) {
-    by('events').replaceChildren(...answer.events.map((one) => {
+    // Beside each event what it breaks, and not what was broken before it.
+    const broken = (place) => answer.events[place].broken.filter((line) => !answer.events[place - 1]?.broken.includes(line));
+    by('events').replaceChildren(...answer.events.map((one, place) => {
       const back = make('button', {type: 'button'}, 'Take back');
       back.setAttribute('aria-label', `take back: ${one.said}`);
       back.addEventListener('click', () => this.send({undo: one.id}));
-      return make('li', {className: one.before ? 'known' : ''}, make('span', {}, one.said), back, ...(one.broken.length ? [make('span', {className: 'broken'}, `breaks: ${one.broken.join('; ')}`)] : []));
+      return make('li', {className: one.before ? 'known' : ''}, make('span', {}, one.said), back, ...(broken(place).length ? [make('span', {className: 'broken'}, `breaks: ${broken(place).join('; ')}`)] : []));
     }));
     by('broken').replaceChildren(...(answer.broken.length ? answer.broken.map((line) => make('li', {className: 'q'}, line)) : [make('li', {className: 'm'}, 'Nothing: the plan still holds.')]));
     by('noted').replaceChildren(...answer.noted.map((line) => make('li', {}, line)));

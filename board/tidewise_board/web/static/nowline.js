@@ -3,6 +3,10 @@ import {held} from './layer.js';
 import {x_of} from './rows.js';
 import {shape} from './shapes.js';
 
+// Where the line begins, below the legend and the clock; its label stands so far above the first ship's row, where there is room.
+const LINE = 50;
+const ABOVE = 9;
+
 /** Draws the line at a slot, which may lie within one, as 17.4; for null there is none. `clock` is its label. */
 export function line(picture, slot, clock = '') {
   if (!picture.svg) return;
@@ -11,8 +15,8 @@ export function line(picture, slot, clock = '') {
   if (slot === null || !row || slot < 0 || slot > row.span) return;
   const box = picture.svg.viewBox.baseVal, x = x_of(row.span, slot);
   const group = shape('g', {class: 'nowline', color: 'var(--orange)', 'pointer-events': 'none', role: 'img', 'aria-label': `now: ${clock}`});
-  group.append(shape('path', {d: `M${x} ${box.y + 14}V${box.y + box.height - 24}`, stroke: 'currentColor', 'stroke-width': 2, 'stroke-dasharray': '5 3', fill: 'none'}),
-    shape('text', {x, y: box.y + 11, fill: 'currentColor', 'text-anchor': 'middle', 'font-size': 11, 'font-weight': 600}, `now ${clock}`));
+  group.append(shape('path', {d: `M${x} ${box.y + LINE}V${box.y + box.height - 24}`, stroke: 'currentColor', 'stroke-width': 2, 'stroke-dasharray': '5 3', fill: 'none'}),
+    shape('text', {x: x + 5, y: Math.min(...picture.rows.map((one) => one.y)) - ABOVE, class: 'lab', fill: 'currentColor', 'font-size': 11}, `now ${clock}`));
   picture.svg.append(group);
 }
 
