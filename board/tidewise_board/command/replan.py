@@ -7,6 +7,7 @@ from typing import Any
 
 import click
 
+from ..core import race
 from ..core.changes import changes
 from ..core.happened import Sailed, kept_of
 from ..core.pins import why_not
@@ -41,10 +42,11 @@ def repaired(place: Place, runs: Runs, plan: sqlite3.Row, watch: Watch, limit: f
     run = runs.get(plan["run"])
     made = watch.repair({int(ship): slot for ship, slot in json.loads(run["pins"]).items()})
     with ended_by_signals() as ended:
-        number = runs.begin(run["day"], made.inputs, "repair", f"repair of plan {plan['number']}", BUDGET, run["input"], plan["run"], made.pins)
-        with place.store.change() as db:
-            db.execute("INSERT INTO told(run, events) VALUES (?, ?)", (number, json.dumps([kept_of(one) for one in watch.events])))
-        follow(runs, number, limit, ended)
+        leader = race.join(runs, lambda: runs.begin(run["day"], made.inputs, "repair", f"repair of plan {plan['number']}", BUDGET, run["input"],
+                                                    plan["run"], made.pins))
+        follow(runs, leader, limit, ended)
+    number = race.winner(runs, leader)
+    place.store.insert("INSERT INTO told(run, events) VALUES (?, ?)", number, json.dumps([kept_of(one) for one in watch.events]))
     return number, made.noted
 
 

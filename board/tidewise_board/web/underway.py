@@ -99,6 +99,8 @@ def undo(plan: sqlite3.Row, number: int, watch: Watch) -> None:
     row = board().store.row("SELECT * FROM event WHERE id = ? AND day = ?", number, plan["day"])
     if row is None:
         abort(404)
+    if row["source"] is not None:
+        raise ValueError(f"this was noted by `tw log`: take its line out of {row['source']}.csv")
     with board().store.change() as db:
         db.execute("DELETE FROM event WHERE id = ?", (number,))
         noted(plan["day"], f"took back: {event_of(json.loads(row['line'])).said(watch.port.clock)}")
