@@ -3,7 +3,18 @@
 /** Its rows of cells; nothing for a text that is no block, which the cell takes as it is. */
 export function block_of(text) {
   const bare = text.replace(/\r?\n$/, '');
-  return /[\t\n]/.test(bare) ? bare.split(/\r?\n/).map((line) => line.split('\t')) : null;
+  return /[\t\n]/.test(bare) ? cells_of(bare) : null;
+}
+
+/** The cells of a block. One with a tab, a line's end or a quote stands between quotes, its own doubled; its lines become one. */
+function cells_of(text) {
+  const rows = [[]];
+  for (const [, quoted, plain, end] of text.matchAll(/(?:"((?:[^"]|"")*)"(?=[\t\r\n]|$)|([^\t\n]*?))(\t|\r?\n|$)/g)) {
+    rows.at(-1).push((quoted === undefined ? plain : quoted.replaceAll('""', '"').replace(/\s*\r?\n\s*/g, ' ')).trim());
+    if (end === '') break;
+    if (end !== '\t') rows.push([]);
+  }
+  return rows;
 }
 
 // The heads of a line-up: a row for each movement has a direction, one for each call has times or a stay.
