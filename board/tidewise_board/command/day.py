@@ -71,9 +71,9 @@ def source_of(place: Place) -> bytes:
 def freeze(place: Place) -> Frozen:
     """Keeps the day's inputs as they are now."""
     store, folder = place.store, place.folder
-    inputs = Inputs(store.put(folder.instance.encode()), store.put(folder.tides.encode()))
-    source = store.put(source_of(place))
     with store.change() as db:
+        inputs = Inputs(store.put(folder.instance.encode()), store.put(folder.tides.encode()))
+        source = store.put(source_of(place))
         day = day_number(place)
         if day is None:
             day = store.insert("INSERT INTO day(name, draft) VALUES (?, ?)", folder.day, source)

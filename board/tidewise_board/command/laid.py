@@ -14,13 +14,14 @@ class Stands(ValueError):
     """A published file has this name already, with other bytes."""
 
 
-def write(path: str, data: bytes, mode: int = 0o644) -> None:
-    """Puts a file into place whole, or not at all."""
+def write(path: str, data: bytes, mode: int = 0o644, at_once: bool = True) -> None:
+    """Puts a file into place whole, or not at all; `at_once` waits until the disk has it."""
     with tempfile.NamedTemporaryFile(dir=os.path.dirname(path), prefix=".laid-", delete=False) as file:
         try:
             file.write(data)
             file.flush()
-            os.fsync(file.fileno())
+            if at_once:
+                os.fsync(file.fileno())
             os.fchmod(file.fileno(), mode)
             os.replace(file.name, path)
         except BaseException:
@@ -48,11 +49,12 @@ def sums_of(files: dict[str, bytes]) -> bytes:
 
 
 def lay(folder: str, files: dict[str, bytes]) -> list[str]:
-    """Lays a plan's files in its day's folder instead of those of the plan before, and returns their names."""
+    """Lays a plan's files in its day's folder instead of those of the plan before, and returns their names. All of them stand in the store
+    too, so nobody waits for the disk but for their sums."""
     os.makedirs(folder, exist_ok=True)
     names = [name for name in NAMES if name in files]
     for name in names:
-        write(os.path.join(folder, name), files[name])
+        write(os.path.join(folder, name), files[name], at_once=False)
     for name in NAMES:
         if name not in files and os.path.exists(os.path.join(folder, name)):
             os.unlink(os.path.join(folder, name))
