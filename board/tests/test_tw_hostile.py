@@ -66,7 +66,7 @@ def script(tmp_path: object, text: str) -> str:
 
 # Ends and kills.
 
-@pytest.mark.parametrize("number", [signal.SIGINT, signal.SIGTERM, signal.SIGHUP])
+@pytest.mark.parametrize("number", [signal.SIGINT, *(pytest.param(one, marks=pytest.mark.slow) for one in (signal.SIGTERM, signal.SIGHUP))])
 def test_an_end_keeps_what_was_found(hard: str, number: signal.Signals) -> None:
     running = process("plan", hard, "--program", PROGRAM, "--limit", "600")
     until(lambda: lines_of(hard) > 100)
