@@ -105,7 +105,7 @@ def test_two_checkers_that_differ(store: Store, tmp_path: object) -> None:
         file.write(f"#!/bin/sh\n/usr/bin/env -S {PROGRAM} \"$@\" > said\nstatus=$?\n/bin/sed s/457229.0/457230.0/ said\nexit $status\n")
     os.chmod(path, 0o700)
     program = Program(path, store)
-    program.proved = True
+    program.trusted = True
     made = days.make(days.dropped(example("contested.json", "day-tides.csv")), program)
     assert made.instance and made.tides, made.told
     store.insert("INSERT INTO day(name) VALUES ('contested')")

@@ -72,7 +72,7 @@ def store_of(root: str) -> Store:
 
 
 def program_of(path: str, store: Store) -> Program:
-    """The program, which counts as proved where its very bytes were named so."""
+    """The program, which is trusted where its very bytes were named so."""
     return Program(path, store, trust.digests())
 
 

@@ -59,7 +59,7 @@ def answered(place: Place, runs: Runs, plan: sqlite3.Row, watch: Watch, number: 
     if answer["sailings"]:
         found = changes(dated(place, run["instance"]), table_of(runs, before), table_of(runs, run), dated(place, before["instance"]))
         answer["moves"] = [{"ship": one.ship, "before": one.before, "after": one.after, "difference_t": one.difference / 10} for one in found]
-        answer["difference"] = worth(old, runs.verdict(number), place.program.proved)
+        answer["difference"] = worth(old, runs.verdict(number), place.program.trusted)
     elif status_of(answer) == INFEASIBLE:
         answer["clash"] = why_not(place.program, watch.repair({}).inputs, {})["kept"]
     return answer

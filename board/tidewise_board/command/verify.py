@@ -39,7 +39,7 @@ def steps(found: Audited, program: Program) -> list[tuple[bool | None, str]]:
             (found.agrees, f"verify says {found.line}" + ("" if found.agrees else f", and the file claims {bundle.said() or 'nothing'}")),
             (None if found.second.startswith(("not ", "no answer")) else found.second == found.line, f"the second checker says {found.second}"),
             *((part.good, part.said) for part in found.parts),
-            (program.proved or None, f"checked by {build_words(program)}, {program.digest}")]
+            (program.trusted or None, f"checked by {build_words(program)}, {program.digest}")]
 
 
 @click.command(name="verify")
@@ -62,7 +62,7 @@ def command(bundle: str, as_json: bool, program: str) -> int:
             found = audited(made, data)
         except NoBundle as cause:
             raise Refused(f"{bundle} is no published file: {cause}") from None
-        seal, headline, meaning = audit_words(found, made.proved)
+        seal, headline, meaning = audit_words(found, made.trusted)
         done = steps(found, made)
         believed = [*BELIEVED, f"that the program which says so is the one meant: {made.digest}"]
     good = found.said is not None and seal != "nothing"

@@ -87,7 +87,7 @@ class Worth:
 
     def __init__(self, place: Place, names: list[str], planned: list[Planned], base: Verdict) -> None:
         self.place, self.names, self.planned, self.base = place, names, planned, base
-        self.title = f"{place.folder.day} as it is. {headline(base, place.program.proved)}"
+        self.title = f"{place.folder.day} as it is. {headline(base, place.program.trusted)}"
 
     def limits(self, said: Verdict | None) -> tuple[int | None, int | None]:
         """By how much a change carries at least and at most more, as far as the two verdicts tell."""
@@ -123,7 +123,7 @@ class Worth:
                           "cargo_t": in_tonnes(said.cargo if said else None),
                           "bound_t": in_tonnes(said.bound if said else None), "least_t": in_tonnes(least), "most_t": in_tonnes(most),
                           "seconds": round(one.seconds, 2)})
-        return {"day": self.place.folder.day, "headline": headline(self.base, self.place.program.proved), "changes": found}
+        return {"day": self.place.folder.day, "headline": headline(self.base, self.place.program.trusted), "changes": found}
 
     def bars(self) -> list[Bar]:
         return [Bar(name, *self.limits(one.verdict), self.difference(one.verdict) or self.result(one))

@@ -1,1 +1,1 @@
-"""What the page and the command `tw` share: the program, the store, runs, and the one place that says "proved"."""
+"""What the page and the command `tw` share: the program, the store, runs, and the one place that says what a verdict is worth."""

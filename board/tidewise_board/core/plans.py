@@ -94,7 +94,7 @@ def files_of(runs: Runs, plan: sqlite3.Row, title: str) -> dict[str, bytes]:
     # A source makes the day's own instance: where something was closed since, this is another one.
     if source and source["instance"] == run["instance"]:
         files["source.json"] = store.get(source["source"])
-    files["README.txt"] = readme(title, line, program.version, program.digest, program.proved, words_of(files)).encode()
+    files["README.txt"] = readme(title, line, program.version, program.digest, program.trusted, words_of(files)).encode()
     return files
 
 

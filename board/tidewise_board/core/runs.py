@@ -1,4 +1,4 @@
-"""Long runs: each in a folder of its own, in a row in the store, and shown as proved only after `verify` of what it left."""
+"""Long runs: each in a folder of its own, in a row in the store, and shown only after `verify` of what it left."""
 from __future__ import annotations
 
 import json

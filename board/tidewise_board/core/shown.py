@@ -31,7 +31,7 @@ SILENT = ("not within", "no answer")
 
 def build_words(program: Program) -> str:
     """Which program answers here: its version, and whether its operator named these very bytes as proved."""
-    return f"{program.version}, {'proved' if program.proved else 'an unproved build'}"
+    return f"{program.version}, {'proved' if program.trusted else 'an unproved build'}"
 
 
 def warning_words(program: Program) -> str:
@@ -177,13 +177,13 @@ def shown(runs: Runs, number: int) -> dict[str, Any]:
         said, fault = None, f"verify says {line}, but the second checker {second}"
     root = root_of(runs, run)
     base = runs.verdict(root["id"]) if root["id"] != number else None
-    difference = worth(base, said, runs.program.proved) if root["id"] != number else ""
-    proved = runs.program.proved and said is not None and said.closed
+    difference = worth(base, said, runs.program.trusted) if root["id"] != number else ""
+    proved = runs.program.trusted and said is not None and said.closed
     follower = runs.followers.get(number)
     return {
         "id": number, "day": run["day"], "kind": run["kind"], "label": run["label"], "state": run["state"],
         "ended": run["state"] in ENDED, "fault": fault, "verdict": line,
-        "headline": headline(said, runs.program.proved) if said else "No plan", "proved": proved, "seal": seal(runs.program.proved, said),
+        "headline": headline(said, runs.program.trusted) if said else "No plan", "proved": proved, "seal": seal(runs.program.trusted, said),
         "word": said.word if said else "", "meaning": meaning(said, pins, run["plan"] is not None) if said else "",
         "cargo": said.cargo if said else None, "bound": said.bound if said else None,
         "second": second, "second_agrees": line is not None and second == line,

@@ -28,10 +28,10 @@ def check() -> Any:
         found = audited(here.program, file.read())
     except NoBundle as cause:
         raise ValueError(f"this is no bundle: {cause}") from None
-    seal, title, means = audit_words(found, here.program.proved)
+    seal, title, means = audit_words(found, here.program.trusted)
     bundle = found.bundle
     return {"sums": [{"name": name, "good": good} for name, good in bundle.sums], "sound": bundle.sound, "claimed": bundle.said(),
-            "line": found.line, "agrees": found.agrees, "headline": title, "meaning": means, "seal": seal, "named": here.program.proved,
+            "line": found.line, "agrees": found.agrees, "headline": title, "meaning": means, "seal": seal, "named": here.program.trusted,
             "second": found.second, "picture": found.picture, "parts": [asdict(part) for part in found.parts],
             "known": known(found), "program": here.program.digest, "build": build_words(here.program)}
 

@@ -36,7 +36,7 @@ def compare(one: int, other: int) -> str:
         told.append("another tide table")
     return render_template("compare.html", day=None, page="compare", runs=both, rows=rows_of(runs), told=told, choices=choices(),
                            days=[here.store.row("SELECT id, name FROM day WHERE id = ?", run["day"]) for run in runs],
-                           difference=worth(verdicts[0], verdicts[1], here.program.proved))
+                           difference=worth(verdicts[0], verdicts[1], here.program.trusted))
 
 
 def rows_of(runs: list[sqlite3.Row]) -> list[dict[str, Any]]:

@@ -59,7 +59,7 @@ def row_of(day: sqlite3.Row, run: sqlite3.Row) -> dict[str, Any] | None:
         return None
     hand = last_hand(day["id"], run)
     return {"day": day["id"], "name": day["name"], "made": day["made"], "run": run["id"], "cargo": plan["cargo"], "bound": plan["bound"],
-            "headline": plan["headline"], "seal": seal(here.program.proved, verdict), "whatifs": listed(run["id"])["rows"],
+            "headline": plan["headline"], "seal": seal(here.program.trusted, verdict), "whatifs": listed(run["id"])["rows"],
             "hand": None if hand is None else {"cargo": hand.cargo, "permitted": hand.permitted, "breaks": len(hand.broken),
                                                "more": signed(plan["cargo"] - hand.cargo)}}
 

@@ -22,12 +22,12 @@ BUSY = 4
 
 @dataclass(frozen=True)
 class Serving:
-    """How a board is served: its port, the folder of its store, the program, the SHA-256 of those that count as proved, how many runs there
+    """How a board is served: its port, the folder of its store, the program, the SHA-256 of those that are trusted, how many runs there
     are at once, and how far they step back for other programs."""
     port: int
     data: str
     program: str
-    proved: list[str]
+    trusted: list[str]
     at_once: int
     nice: int
 
@@ -47,7 +47,7 @@ def open_board(given: Serving) -> int:
 
 
 def serve(given: Serving, store: Store) -> None:
-    program = Program(given.program, store, given.proved, given.nice)
+    program = Program(given.program, store, given.trusted, given.nice)
     runs = Runs(store, program, given.at_once)
     key = key_of(given.data)
     app = create(store, program, runs, key, given.port)
@@ -64,16 +64,16 @@ def serve(given: Serving, store: Store) -> None:
 
 
 def main() -> None:
-    """For tests: a board over any folder, whose programs that count as proved are named by words."""
+    """For tests: a board over any folder, whose trusted programs are named by words."""
     parser = argparse.ArgumentParser(prog="tidewise-board", description=__doc__)
     parser.add_argument("--port", type=int, default=8420)
     parser.add_argument("--data", default=default_folder())
     parser.add_argument("--program", default="tidewise")
-    parser.add_argument("--proved", action="append", default=[], metavar="SHA256")
+    parser.add_argument("--trusted", action="append", default=[], metavar="SHA256")
     parser.add_argument("--at-once", type=int, default=max(1, (os.cpu_count() or 2) // 2))
     parser.add_argument("--nice", type=int, default=5)
     given = parser.parse_args()
-    sys.exit(open_board(Serving(given.port, given.data, given.program, given.proved, given.at_once, given.nice)))
+    sys.exit(open_board(Serving(given.port, given.data, given.program, given.trusted, given.at_once, given.nice)))
 
 
 if __name__ == "__main__":

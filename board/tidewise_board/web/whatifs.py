@@ -61,8 +61,8 @@ def listed(number: int) -> Any:
     for run in here.store.rows("SELECT * FROM run WHERE base = ? AND kind = 'whatif' ORDER BY id", root["id"]):
         verdict = here.runs.verdict(run["id"])
         rows.append({"label": run["label"], "ended": run["state"] in ENDED, "word": verdict.word if verdict else run["fault"] or "",
-                     "difference": worth(base, verdict, here.program.proved), "run": run["id"],
+                     "difference": worth(base, verdict, here.program.trusted), "run": run["id"],
                      "tenths": verdict.cargo - base.cargo if verdict and base and verdict.cargo is not None and base.cargo is not None
                      and verdict.word == base.word == "optimal" else None,
-                     "seal": seal(here.program.proved, base, verdict), "base": root["id"], "cert": run["cert"]})
+                     "seal": seal(here.program.trusted, base, verdict), "base": root["id"], "cert": run["cert"]})
     return {"rows": rows}
