@@ -164,6 +164,11 @@ class TestWindows:
         assert hector["load"]["times"] == [{"from": "2027-03-14 07:10", "to": "2027-03-14 07:40"},
                                            {"from": "2027-03-14 19:40", "to": "2027-03-14 19:40"}]
 
+    def test_a_call(self, tw: Tw, calls: str) -> None:
+        done = tw("windows", "grace", "--in", calls, "--json")
+        assert [one["ship"] for one in json.loads(done.out)] == ["Grace in", "Grace out"]
+        assert [one["ship"] for one in json.loads(tw("windows", "Grace out", "--in", calls, "--json").out)] == ["Grace out"]
+
     def test_at(self, tw: Tw, calls: str) -> None:
         done = tw("windows", "Hector", "--in", calls, "--at", "8:00")
         assert done.out.splitlines() == ["Hector, outgoing, 10.00 to 16.50 m", "  07:55  closed"]
@@ -171,7 +176,7 @@ class TestWindows:
         assert done.out.splitlines()[1] == "  19:55  her own window is 03:40 to 17:55"
 
     @pytest.mark.parametrize("words,cause", [
-        (["Skua"], "Skua is no ship of this day"), (["Grace"], "Grace may be Grace in, Grace out: which ship?"),
+        (["Skua"], "Skua is no ship of this day"),
         (["Hector", "--draft", "17.50"], "Hector sails with 10.00 to 16.50 m, never with 17.50 m"),
         (["Hector", "--draft", "deep"], "deep is no draft in metres, such as 17.80"),
         (["Hector", "--at", "16 Mar 04:00"], "16 Mar 04:00 isn't from 2027-03-14 03:40 to 2027-03-15 03:40"),

@@ -93,6 +93,20 @@ def test_a_ship_is_added_by_keys(planner: Planner) -> None:
     ready(planner)
 
 
+def test_a_block_with_quotes(planner: Planner) -> None:
+    """As a spreadsheet writes a cell with a line's end or a quote; a block goes over the last row, and a cell alone stays a cell."""
+    planner.drop("contested.json", "day-tides.csv")
+    ready(planner)
+    planner.driver.execute_script("""
+        const paste = (name, text) => { const data = new DataTransfer(); data.setData('text/plain', text);
+            document.querySelector(`[aria-label="${name}"]`).dispatchEvent(new ClipboardEvent('paste', {clipboardData: data, bubbles: true, cancelable: true})); };
+        paste('name of ship 8', '"Ibis\\nII"\\toutgoing\\r\\n"Jac ""J"" ana"\\toutgoing\\r\\nKite\\toutgoing\\r\\n');
+        paste('name of ship 0', 'Alba');""")
+    assert names(planner)[8:] == ["Ibis II", 'Jac "J" ana', "Kite"] and names(planner)[0] == "Albatross"
+    # The new ship has the route of the first one that goes out, and no number yet.
+    wait(lambda: "ship 10 Kite" in planner.text("told") and not planner.at("plan").is_enabled())
+
+
 def test_the_port_as_a_form(planner: Planner) -> None:
     """A field writes the JSON behind it; a fault stands at its field; the JSON draws the form anew."""
     planner.drop("calls.csv", "calls-port.json", "waters-bar.txt", "waters-berth.txt")

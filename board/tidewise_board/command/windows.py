@@ -38,7 +38,7 @@ def command(ships: tuple[str, ...], draft: str | None, time: str | None, **asked
     """
     place = place_of(asked["folder"], asked["day"], asked["program"])
     wanted = None if draft is None else centimetres(draft)
-    numbers = [place.folder.ship_of(name) for name in ships] or list(range(len(place.folder.port.ships)))
+    numbers = [number for name in ships for number in place.folder.ships_of(name)] or list(range(len(place.folder.port.ships)))
     windows = Windows(place, None if time is None else slot_of(time, place.folder.clock))
     answers = [windows.answer(number, wanted) for number in numbers]
     if asked["as_json"]:
@@ -178,7 +178,8 @@ class Windows:
             return [Stretch(OWN, slot, slot, own)]
         changed = instance_of(self.instance)
         changed["ships"][ship].update({"earliest": slot, "latest": slot})
-        said = self.place.program.ask("windows", "port", Draft(json.dumps(changed).encode(), "day.json"), Text(self.inputs.tides, "tides.csv"))
+        day, tides = Draft(json.dumps(changed).encode(), "day.json"), Text(self.inputs.tides, "tides.csv")
+        said = self.place.program.ask("windows", "port", day, tides)
         if said.status:
             raise Refused(said.output.strip())
         return windows_of(said.output)[ship]

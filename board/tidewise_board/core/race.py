@@ -17,8 +17,10 @@ BEAT = 0.05
 
 
 def idle(runs: Runs) -> int:
-    """How many processors of this machine no run of the board is using, at least one."""
-    return max(1, len(os.sched_getaffinity(0)) - len(runs.followers))
+    """How many processors of this machine nobody is using, at least one: neither runs of the board nor, by the load of the last minute,
+    anything else."""
+    busy = max(len(runs.followers), int(os.getloadavg()[0]))
+    return max(1, len(os.sched_getaffinity(0)) - busy)
 
 
 def begin(runs: Runs, day: int, inputs: Inputs, label: str, budget: int, input_id: int | None = None) -> int:

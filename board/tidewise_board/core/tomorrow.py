@@ -29,10 +29,10 @@ class Rolled:
 
 def rolled(day: str, instance: str, port: Port, timetable: list[int], events: list[Event], source: Source | None) -> Rolled:
     """Rolls a plan one day on. `instance` is the day's own, without what was closed since; `source` has the tide as a planner wrote it."""
-    shift, rest = divmod(MINUTES_A_DAY, port.minutes)
+    shift = slots_of_a_day(port)
     made: dict[str, Any] = copy.deepcopy(json.loads(instance))
     found = Rolled(next_name(day, port))
-    if rest:
+    if shift * port.minutes != MINUTES_A_DAY:
         found.blocked.append(f"a day is no whole number of slots of {port.minutes} minutes")
         return found
     stays = {one.ship for one in events if isinstance(one, Stays)}
@@ -42,9 +42,9 @@ def rolled(day: str, instance: str, port: Port, timetable: list[int], events: li
             left.append(place)
         elif slot + reach(made, ship) > shift:
             found.blocked.append(f"{ship['name']} sails at {port.clock(slot)} and is still under way when tomorrow begins")
-    berths_and_turns(found, made, port, timetable, left, shift)
-    fleet_and_closings(found, made, port, events, shift)
-    ships(found, made, port, timetable, events, left, shift)
+    berths_and_turns(found, made, port, timetable, left)
+    fleet_and_closings(found, made, port, events)
+    ships(found, made, port, timetable, events, left)
     if port.start:
         made["start"] = (datetime.strptime(port.start, START) + timedelta(days=1)).strftime(START)
     if not left:
@@ -52,6 +52,10 @@ def rolled(day: str, instance: str, port: Port, timetable: list[int], events: li
     elif not found.blocked:
         found.source = source_of_tomorrow(found, made, source)
     return found
+
+
+def slots_of_a_day(port: Port) -> int:
+    return MINUTES_A_DAY // port.minutes
 
 
 def next_name(day: str, port: Port) -> str:
@@ -67,8 +71,9 @@ def reach(instance: dict[str, Any], ship: dict[str, Any]) -> int:
                + [int(slots) for slots in instance["separation"][ship["class"]]])
 
 
-def berths_and_turns(found: Rolled, made: dict[str, Any], port: Port, timetable: list[int], left: list[int], shift: int) -> None:
+def berths_and_turns(found: Rolled, made: dict[str, Any], port: Port, timetable: list[int], left: list[int]) -> None:
     """Keeps the pairs whose two ships are both left; a pair of which one has gone must be settled before tomorrow begins."""
+    shift = slots_of_a_day(port)
     new = {place: number for number, place in enumerate(left)}
     for kind, first, second, gap in (("berths", "outgoing", "incoming", "clear"), ("after", "first", "second", "gap")):
         kept = []
@@ -84,7 +89,9 @@ def berths_and_turns(found: Rolled, made: dict[str, Any], port: Port, timetable:
             made[kind] = kept
 
 
-def fleet_and_closings(found: Rolled, made: dict[str, Any], port: Port, events: list[Event], shift: int) -> None:
+def fleet_and_closings(found: Rolled, made: dict[str, Any], port: Port, events: list[Event]) -> None:
+    """Lessens the fleet by the tugs that are out until further notice, and moves what is closed to tomorrow's slots."""
+    shift = slots_of_a_day(port)
     for one in events:
         if isinstance(one, TugsOut) and one.last is not None and one.last > shift:
             found.blocked.append(f"{one.said(port.clock)}: the program knows no hours of tugs yet")
@@ -102,9 +109,9 @@ def fleet_and_closings(found: Rolled, made: dict[str, Any], port: Port, events: 
             place["closed"] = [{"from": max(0, one["from"] - shift), "to": one["to"] - shift} for one in place["closed"] if one["to"] >= shift]
 
 
-def ships(found: Rolled, made: dict[str, Any], port: Port, timetable: list[int], events: list[Event], left: list[int], shift: int) -> None:
+def ships(found: Rolled, made: dict[str, Any], port: Port, timetable: list[int], events: list[Event], left: list[int]) -> None:
     """Moves the windows of the ships that are left, to tomorrow's slots."""
-    kept = []
+    shift, kept = slots_of_a_day(port), []
     for place in left:
         ship = made["ships"][place]
         first = max([ship["earliest"], *(one.slot for one in events if isinstance(one, NotBefore) and one.ship == ship["name"])])

@@ -88,6 +88,14 @@ class Folder:
         """The number of the ship of this name: as written, or in other letters' case, or the only one that begins so."""
         return one_of(text, self.port.ships, "ship")
 
+    def ships_of(self, text: str) -> list[int]:
+        """The numbers of a call's two movements, by its name, or else that of the ship of this name."""
+        try:
+            call = self.calls[one_of(text, [call.name for call in self.calls], "call")]
+        except Refused:
+            return [self.ship_of(text)]
+        return [call.incoming, call.outgoing]
+
 
 @dataclass(frozen=True)
 class Looked:

@@ -37,11 +37,13 @@ export class Curve {
   axes() {
     const parts = [], step = this.high - this.low > 400 ? 100 : 50;
     for (let draft = this.low; draft <= this.high; draft += step) {
-      parts.push(shape('path', {class: 'grid', d: `M${BOX.left} ${this.y(draft)}h${BOX.wide}`}), shape('text', {x: BOX.left - 6, y: this.y(draft) + 4, 'text-anchor': 'end'}, (draft / 100).toFixed(2)));
+      parts.push(shape('path', {class: 'grid', d: `M${BOX.left} ${this.y(draft)}h${BOX.wide}`}),
+        shape('text', {x: BOX.left - 6, y: this.y(draft) + 4, 'text-anchor': 'end'}, (draft / 100).toFixed(2)));
     }
     const each = Math.max(1, Math.ceil(this.clock.length / 12));
     for (let slot = 0; slot < this.clock.length; slot += each) {
-      parts.push(shape('path', {class: 'grid', d: `M${this.x(slot)} ${BOX.top}v${BOX.high}`}), shape('text', {x: this.x(slot), y: BOX.top + BOX.high + 16, 'text-anchor': 'middle'}, this.clock[slot]));
+      parts.push(shape('path', {class: 'grid', d: `M${this.x(slot)} ${BOX.top}v${BOX.high}`}),
+        shape('text', {x: this.x(slot), y: BOX.top + BOX.high + 16, 'text-anchor': 'middle'}, this.clock[slot]));
     }
     parts.push(shape('text', {x: 4, y: BOX.top + 4, class: 'm'}, 'm'));
     return parts;
@@ -52,7 +54,8 @@ export class Curve {
     let path = '', last = null;
     for (const one of this.at) {
       const draft = one[member];
-      if (draft !== null) path += `${last === one.slot - 1 ? 'V' : `M${this.x(one.slot).toFixed(1)} `}${this.y(draft).toFixed(1)}H${this.x(one.slot + 1).toFixed(1)}`;
+      const joined = last === one.slot - 1 ? 'V' : `M${this.x(one.slot).toFixed(1)} `;
+      if (draft !== null) path += `${joined}${this.y(draft).toFixed(1)}H${this.x(one.slot + 1).toFixed(1)}`;
       last = draft === null ? null : one.slot;
     }
     return shape('path', {class: kind, d: path || 'M0 0'});
@@ -60,7 +63,8 @@ export class Curve {
 
   /** Shades the slots in which she may sail with a draft, and draws its line. */
   mark(spans, draft) {
-    const parts = spans.map(([first, last]) => shape('rect', {class: 'fits', x: this.x(first), y: BOX.top, width: this.x(last + 1) - this.x(first), height: BOX.high}));
+    const parts = spans.map(([first, last]) => shape('rect',
+      {class: 'fits', x: this.x(first), y: BOX.top, width: this.x(last + 1) - this.x(first), height: BOX.high}));
     if (draft !== undefined && draft <= this.high) parts.push(shape('path', {class: 'wanted', d: `M${BOX.left} ${this.y(draft)}h${BOX.wide}`}));
     this.marks.replaceChildren(...parts);
   }

@@ -2,7 +2,10 @@
 import {by, follow, make, post, tell, tonnes} from './api.js';
 import {draw} from './progress.js';
 
-/** Makes the buttons work; `running` is the day's run that is under way, if there is one. `settled` keeps what was typed last; `faulty` marks the faults for which a day isn't planned. */
+/**
+ * Makes the buttons work; `running` is the day's run that is under way, if there is one.
+ * `settled` keeps what was typed last; `faulty` marks the faults for which a day isn't planned.
+ */
 export function planning(day, running, settled, faulty) {
   draw(by('chart'), []);
   if (running !== null) {
@@ -37,7 +40,7 @@ async function watch(day, run) {
   const end = await follow(run, show);
   by('plan').disabled = false;
   const note = end.fault ?? `${end.state}, ${end.seconds} s; verify: ${end.verdict}`;
-  by('state').replaceChildren(make('b', {className: end.proved ? 'good' : ''}, end.headline), make('br'), make('span', {className: 'm'}, note));
+  by('state').replaceChildren(make('b', {className: end.seal ? 'good' : ''}, end.headline), make('br'), make('span', {className: 'm'}, note));
   tell(end.headline);
   if (end.verdict) location.href = `/day/${day}/plan/${end.id}`;
 }
