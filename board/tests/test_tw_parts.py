@@ -98,8 +98,8 @@ def test_words_are_numbers(tw: Tw, hard: str, words: list[str]) -> None:
 
 @pytest.mark.parametrize("number", [signal.SIGTERM, pytest.param(signal.SIGHUP, marks=pytest.mark.slow)])
 def test_parts_that_are_ended_leave_no_run(tw: Tw, tmp_path: object, number: signal.Signals) -> None:
-    folder = busy(os.path.join(str(tmp_path), "harder"), 24, 6)
-    running = process("plan", folder, "--parts", "16", "--limit", "600", "--program", PROGRAM)
+    folder = busy(os.path.join(str(tmp_path), "harder"), 20, 6)
+    running = process("plan", folder, "--parts", "8", *PRELUDE, "--limit", "600", "--program", PROGRAM)
     until(lambda: len(searching(folder)) > 1)
     running.send_signal(number)
     out, err = running.communicate(timeout=PATIENCE)
@@ -108,8 +108,8 @@ def test_parts_that_are_ended_leave_no_run(tw: Tw, tmp_path: object, number: sig
 
 
 def test_parts_that_are_killed_are_ended_by_the_next_one(tw: Tw, tmp_path: object) -> None:
-    folder = busy(os.path.join(str(tmp_path), "harder"), 24, 6)
-    running = process("plan", folder, "--parts", "16", "--limit", "600", "--program", PROGRAM)
+    folder = busy(os.path.join(str(tmp_path), "harder"), 20, 6)
+    running = process("plan", folder, "--parts", "8", *PRELUDE, "--limit", "600", "--program", PROGRAM)
     until(lambda: len(searching(folder)) > 1)
     running.kill()
     running.wait()
