@@ -130,6 +130,13 @@ class TestCheck:
         done = tw("check", port, "--day", "tomorrow")
         assert (done.status, done.err) == (4, "tw: tomorrow is no date of the form 2027-03-14, with a year of four digits\n")
 
+    def test_where_nothing_can_be_kept(self, tw: Tw, port: str) -> None:
+        with open(os.path.join(port, ".tw"), "w", encoding="utf-8"):
+            pass
+        done = tw("check", port)
+        assert (done.status, done.err) == (0, "")
+        assert done.out.startswith("clean: 5 movements")
+
     def test_without_a_program(self, tw: Tw, port: str) -> None:
         done = tw("check", port, "--program", "/no/program")
         assert done.status == 0

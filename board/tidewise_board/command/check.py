@@ -2,10 +2,13 @@
 from __future__ import annotations
 
 import shutil
+import sqlite3
+import tempfile
 
 import click
 
 from ..core.program import Draft
+from ..core.store import Store
 from ..library.faults import Refused, Told
 from ..library.folder import LOG, Folder, find, look
 from ..library.linted import told_of
@@ -66,6 +69,11 @@ def linted(folder: Folder, program: str) -> list[Told]:
     """What the program says of the day."""
     if shutil.which(program) is None:
         return [Told("port.json", f"{program} can't be run, so the program wasn't asked: name it by --program or TIDEWISE", hint=True)]
-    said = program_of(program, store_of(folder.root)).ask("lint", Draft(folder.instance.encode(), "day.json"),
-                                                          Draft(folder.tides.encode(), "tides.csv"))
+    words = "lint", Draft(folder.instance.encode(), "day.json"), Draft(folder.tides.encode(), "tides.csv")
+    try:
+        said = program_of(program, store_of(folder.root)).ask(*words)
+    except (OSError, sqlite3.OperationalError):
+        # A folder in which nothing can be written is checked all the same.
+        with tempfile.TemporaryDirectory() as room:
+            said = program_of(program, Store(room)).ask(*words)
     return told_of(said.output, folder)

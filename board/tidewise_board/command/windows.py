@@ -28,7 +28,8 @@ OWN = "own"
 @asking_options
 def command(ships: tuple[str, ...], draft: str | None, time: str | None, **asked: Any) -> int:
     """Says when each SHIP, or each ship of the day, may sail, with which draft, and why she can't at other times. Other ships, berths
-    and tugs aren't looked at. Times are those at which slots begin, from the first to the last slot of each stretch.
+    and tugs aren't looked at. Times are those at which slots begin, from the first to the last slot of each stretch. A call's name
+    is that of both its movements.
 
     With --json: a list of `ship`, `direction`, `stretches` and, of a ship that goes out, `load`. A stretch has `from` and `to` and
     either `least_m` and `greatest_m`, drafts in metres, and `full`, or `why`; `load` has `draft_m` and `times`.
