@@ -1,13 +1,18 @@
 """The command `tw` over a port's folder: plan, log, replan, accept, plans, trust."""
 from __future__ import annotations
 
+import contextlib
 import hashlib
 import os
+import pty
+import re
+import signal
 import subprocess
+import threading
 
 import pytest
 from browser import PROGRAM, ROOT
-from ports import Tw, changed, port, tw, words_of  # noqa: F401 - fixtures
+from ports import Tw, busy, changed, port, tw, words_of  # noqa: F401 - fixtures
 
 
 def test_a_folder_becomes_a_plan(tw: Tw, port: str) -> None:
@@ -144,3 +149,26 @@ def test_without_a_package() -> None:
     done = subprocess.run(words_of(), cwd=ROOT, capture_output=True, text=True, check=True, env={**os.environ, "_TW_COMPLETE": "bash_complete",
                                                                                                "COMP_WORDS": "tw pl", "COMP_CWORD": "1"})
     assert done.stdout.split() == ["plain,plan", "plain,plans"]
+
+
+def drained(terminal: int) -> None:
+    with contextlib.suppress(OSError):
+        while os.read(terminal, 1000):
+            pass
+
+
+def test_how_far_it_is_on_a_terminal_alone(tmp_path: object) -> None:
+    folder = busy(os.path.join(str(tmp_path), "hard"), 24, 6)
+    ours, theirs = pty.openpty()
+    running = subprocess.Popen(words_of("plan", folder, "--program", PROGRAM, "--limit", "600"), cwd=ROOT, stdout=subprocess.PIPE, stderr=theirs, text=True)
+    os.close(theirs)
+    shown = ""
+    while ", gap " not in shown:
+        shown += os.read(ours, 1000).decode()
+    running.send_signal(signal.SIGINT)
+    # The terminal goes on reading: else the line would stand still.
+    threading.Thread(target=drained, args=(ours,), daemon=True).start()
+    out, _ = running.communicate(timeout=120)
+    line = shown.split("\r")[-1]
+    assert re.match(r" *[0-9]+ s  best [0-9,]+\.[0-9] t, at most [0-9,]+\.[0-9] t, gap [0-9.]+%", line), line
+    assert running.returncode == 2 and "\r" not in out and "gap" not in out
