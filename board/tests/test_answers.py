@@ -8,6 +8,7 @@ from typing import Any
 
 import pytest
 from conftest import entered, example
+from tidewise_board.core import race
 from tidewise_board.core.loading import centimetres
 from tidewise_board.core.runs import Inputs, Runs
 from tidewise_board.core.store import Store
@@ -87,7 +88,8 @@ def test_an_unfinished_pin_is_searched_again(client: Any, runs: Runs, contested:
     assert client.post(f"/api/run/{pin}/resume", json={"budget": 0}, headers=token).status_code == 400
 
 
-def test_a_race_answers_for_its_first_run(client: Any, runs: Runs) -> None:
+def test_a_race_answers_for_its_first_run(client: Any, runs: Runs, monkeypatch: pytest.MonkeyPatch) -> None:
+    monkeypatch.setattr(race, "HEAD_START", 60.0)
     token = entered(client)
     number = day(client, token, *example("contested.json", "day-tides.csv"))
     run = planned(client, token, runs, number, race=True)

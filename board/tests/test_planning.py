@@ -92,7 +92,8 @@ def test_lanes_of_a_day(store: Store, runs: Runs, program: Program, calls: Input
     assert lanes(program, calls, [], {})[0].stays == []
 
 
-def test_a_short_day_is_no_race(runs: Runs, contested: Inputs) -> None:
+def test_a_short_day_is_no_race(runs: Runs, contested: Inputs, monkeypatch: pytest.MonkeyPatch) -> None:
+    monkeypatch.setattr(race, "HEAD_START", 60.0)
     leader = race.begin(runs, 1, contested, "day", 20000)
     over(runs, leader)
     assert race.members(runs, leader) == [leader] and race.winner(runs, leader) == leader

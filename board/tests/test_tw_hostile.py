@@ -17,6 +17,7 @@ from ports import Done, Tw, busy, calls, changed, port, process, tw, words_of  #
 from tidewise_board.command import book
 from tidewise_board.core import program as programs
 from tidewise_board.core import runs as all_runs
+from tidewise_board.core.store import Store
 
 PATIENCE = 120
 DAY = os.path.join("day", "2027-03-14")
@@ -66,7 +67,7 @@ def script(tmp_path: object, text: str) -> str:
 
 # Ends and kills.
 
-@pytest.mark.parametrize("number", [signal.SIGINT, signal.SIGTERM, signal.SIGHUP])
+@pytest.mark.parametrize("number", [signal.SIGINT, *(pytest.param(one, marks=pytest.mark.slow) for one in (signal.SIGTERM, signal.SIGHUP))])
 def test_an_end_keeps_what_was_found(hard: str, number: signal.Signals) -> None:
     running = process("plan", hard, "--program", PROGRAM, "--limit", "600")
     until(lambda: lines_of(hard) > 100)
@@ -340,6 +341,21 @@ def test_a_store_that_was_changed(tw: Tw, port: str) -> None:
     again = tw("plan", port, "--json").json()
     assert (again["plan"], again["verdict"]) == (1, "optimal 150962.0")
     assert tw("publish", port).status == 0
+
+
+def test_an_answer_that_somebody_put_there(tw: Tw, port: str) -> None:
+    """A folder may come from others: what `verify` says is asked anew."""
+    tw("trust", PROGRAM)
+    tw("plan", port)
+    store = Store(os.path.join(port, ".tw"))
+    lie = store.put(b"optimal 999999.0\n")
+    with store.change() as db:
+        assert db.execute("UPDATE answer SET output = ? WHERE words LIKE '[\"verify%'", (lie,)).rowcount == 1
+        db.execute("UPDATE run SET verdict = 'optimal 999999.0'")
+    assert tw("plans", port, "--json").json()["plans"][0]["headline"] == "Proved best: 150,962.0 t"
+    with store.change() as db:
+        db.execute("UPDATE answer SET output = ? WHERE words LIKE '[\"verify%'", (lie,))
+    assert tw("plan", port).out.startswith("Proved best: 150,962.0 t\n")
 
 
 def test_a_folder_that_cant_be_written(tw: Tw, port: str) -> None:

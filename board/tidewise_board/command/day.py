@@ -4,16 +4,18 @@ from __future__ import annotations
 import getpass
 import json
 import sqlite3
+from contextlib import suppress
 from dataclasses import dataclass
 from typing import Any
 
 from ..core.days import dropped
 from ..core.facts import Port, port_of
 from ..core.plans import last_plan
-from ..core.program import Text
-from ..core.reading import Verdict, faults_of, tenths
+from ..core.program import Failed, Text
+from ..core.reading import Unread, Verdict, faults_of, tenths
 from ..core.runs import Inputs, Runs
 from ..core.shown import build_words, shown, table_of
+from ..core.store import Damaged
 from ..library.clock import Clock
 from ..library.faults import Told, Wrong
 from .common import Place, say, say_rows
@@ -125,8 +127,15 @@ def figures(said: Verdict | None) -> dict[str, Any]:
             "bound_t": None if said is None or said.bound is None else said.bound / 10, "moved": None if said is None else said.moved}
 
 
+def fresh(runs: Runs, number: int) -> None:
+    """Asks `verify` of a run's bytes now, so that no answer counts which somebody put into the folder. What is wrong is told by `shown`."""
+    with suppress(Unread, Failed, Damaged, OSError):
+        runs.verdict(number, True)
+
+
 def answer_of(place: Place, runs: Runs, number: int) -> dict[str, Any]:
-    """What is said of a run, as docs/TW.md has it."""
+    """What is said of a run, as docs/TW.md has it; `verify` is asked anew, whatever stands in the folder."""
+    fresh(runs, number)
     now, run = shown(runs, number), runs.get(number)
     port = dated(place, run["instance"])
     said = runs.verdict(number) if now["verdict"] else None

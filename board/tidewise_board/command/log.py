@@ -1,6 +1,9 @@
 """`tw log`: what has happened, in a sentence."""
 from __future__ import annotations
 
+from dataclasses import replace
+from typing import Any
+
 import click
 
 from ..core.plans import events_of
@@ -26,7 +29,7 @@ def slot_of(place: Place, minute: int) -> int:
 @DAY
 @JSON
 @PROGRAM
-def command(sentence: tuple[str, ...], folder: str, now: str | None, who: str | None, day: str | None, as_json: bool, program: str) -> int:
+def command(sentence: tuple[str, ...], now: str | None, who: str | None, **asked: Any) -> int:
     """Notes what has happened, as a line of log.csv, and says what of the plan that breaks. It is refused where it can't be.
 
     \b
@@ -41,11 +44,11 @@ def command(sentence: tuple[str, ...], folder: str, now: str | None, who: str | 
     \b
     Example: tw log "Corvo not before 02:00"
     """
-    place = place_of(folder, day, program)
+    place = place_of(asked["folder"], asked["day"], asked["program"])
     if not sentence:
-        return show(place, as_json)
+        return show(place, asked["as_json"])
     with written_alone(place.folder.root):
-        return told(Place(read(place.folder.root, day), place.store, place.program), " ".join(sentence), now, who or user(), as_json)
+        return told(replace(place, folder=read(place.folder.root, asked["day"])), " ".join(sentence), now, who or user(), asked["as_json"])
 
 
 def show(place: Place, as_json: bool) -> int:

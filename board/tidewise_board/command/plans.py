@@ -11,12 +11,13 @@ from ..core.plans import plans_of
 from ..core.runs import Runs
 from ..core.shown import build_words, shown
 from .common import Place, place_of, port_options, say, say_json, say_rows
-from .day import dated, day_number, figures
+from .day import dated, day_number, figures, fresh
 
 
 def listed(place: Place) -> list[dict[str, Any]]:
     runs, found = Runs(place.store, place.program, second=False, own=False), []
     for plan in plans_of(place.store, day_number(place) or 0):
+        fresh(runs, plan["run"])
         now, run = shown(runs, plan["run"]), runs.get(plan["run"])
         clock = dated(place, run["instance"]).clock
         found.append({"plan": plan["number"], "made": plan["made"], "published": plan["frozen"], "headline": now["headline"], "verdict": now["verdict"],

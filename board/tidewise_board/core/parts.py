@@ -14,7 +14,7 @@ from pathlib import Path
 
 from .program import NO_ENVIRONMENT, Failed, Program
 from .progress import whole_lines
-from .runs import PIDS, end, start_of
+from .runs import end
 
 # Statuses of the program: the day is closed, or its budget was spent.
 CLOSED, OPEN = (0, 1), 2
@@ -76,7 +76,6 @@ class Work:
         """One run to its end; it is ended where that was asked for."""
         process = self.start(words, output)
         self.running[0] = process
-        self.note()
         began = time.monotonic()
         asked = None
         while process.poll() is None:
@@ -86,11 +85,6 @@ class Work:
             time.sleep(BEAT)
         del self.running[0]
         return process.returncode
-
-    def note(self) -> None:
-        """Puts down what runs, so that who finds this folder after a kill can end it."""
-        with open(self.path(PIDS), "w", encoding="ascii") as file:
-            file.writelines(f"{one.pid} {start_of(one.pid)}\n" for one in self.running.values())
 
     def close(self) -> None:
         began = time.monotonic()
@@ -143,7 +137,6 @@ def search(work: Work, begun: Begun, share: Share, processes: int) -> None:
         while waiting and len(work.running) < processes:
             part = waiting.pop(0)
             work.running[part] = work.start(["part", *SUBJECT, SPLIT, str(part), START, str(share.budget), f"part-{part}.cert"], f"part-{part}.out")
-            work.note()
         for part, process in list(work.running.items()):
             if process.poll() is not None:
                 del work.running[part]

@@ -12,6 +12,7 @@ import tempfile
 import threading
 import time
 from concurrent.futures import Future, ThreadPoolExecutor
+from contextlib import suppress
 from dataclasses import dataclass
 
 from ..library import CHECKER
@@ -20,11 +21,11 @@ from .progress import Follower, whole_lines
 from .reading import Flat, Unread, Verdict, flat_of, timetable_of, verdict_of
 from .store import Damaged, Store
 
-# A file in the folder of a run that has several processes: the number of each, and when it began.
-PIDS = "pids"
 # How often a certificate is looked at, in seconds, and how long the second checker may take.
 BEAT = 0.1
 SECOND_PATIENCE = 600
+# How the name of a run's folder begins.
+RUN = "run-"
 # Seconds that a process has to end by itself once it was asked to.
 GRACE = 5.0
 BUDGETS = range(1, 100001)
@@ -64,22 +65,37 @@ def verify(program: Program, inputs: Inputs, cert: str, fresh: bool = False) -> 
 
 
 def start_of(pid: int) -> str | None:
-    """When a process began, by the system's own clock: so a number that was given again is told from the old one."""
+    """When a process began, by the system's own clock: so a number that was given again is told from the old one. None of one that has
+    ended, also where nobody has asked for its status yet."""
     try:
         with open(f"/proc/{pid}/stat", encoding="ascii", errors="replace") as file:
-            return file.read().rpartition(")")[2].split()[19]
+            words = file.read().rpartition(")")[2].split()
     except OSError:
         return None
+    return None if words[0] == "Z" else words[19]
 
 
-def noted_pids(folder: str | None) -> list[tuple[int, str]]:
-    """The processes that are put down in the folder of a run."""
-    try:
-        with open(os.path.join(folder or "", PIDS), encoding="ascii", errors="replace") as file:
-            lines = [line.split() for line in file]
-    except OSError:
-        return []
-    return [(int(line[0]), line[1]) for line in lines if len(line) == 2 and line[0].isdigit()]
+def orphans(folder: str) -> list[tuple[int, str | None]]:
+    """Processes, and when each began, of this store's programs in the folders of its runs: what somebody left who was killed, also before
+    that could be put down."""
+    found = []
+    for name in filter(str.isdigit, os.listdir("/proc")):
+        try:
+            program, place = os.readlink(f"/proc/{name}/exe"), os.readlink(f"/proc/{name}/cwd")
+        except OSError:
+            continue
+        if program.startswith(os.path.join(folder, "programs", "")) and place.startswith(os.path.join(folder, RUN)):
+            found.append((int(name), start_of(int(name))))
+    return found
+
+
+def end_orphan(pid: int, began: str | None) -> None:
+    """Ends a process that began then, and waits for that."""
+    asked = time.monotonic()
+    while began is not None and start_of(pid) == began:
+        with suppress(ProcessLookupError):
+            os.kill(pid, signal.SIGTERM if time.monotonic() - asked < GRACE else signal.SIGKILL)
+        time.sleep(0.05)
 
 
 def end(process: subprocess.Popen[bytes], asked: float) -> None:
@@ -116,12 +132,11 @@ class Runs:
 
     def _take_up(self) -> None:
         """What was under way when the board ended: what was written is kept and verified."""
+        for pid, began in orphans(self.store.folder):
+            end_orphan(pid, began)
         for run in self.store.rows("SELECT * FROM run WHERE state IN ('waiting', 'running')"):
-            for pid, began in [(run["pid"], run["pid_start"]), *noted_pids(run["folder"])]:
-                if pid and began and start_of(pid) == began:
-                    os.kill(pid, signal.SIGTERM)
-                    while start_of(pid) == began:
-                        time.sleep(0.05)
+            if run["pid"]:
+                end_orphan(run["pid"], run["pid_start"])
             try:
                 self._close(run["id"], "interrupted", json.loads(run["series"]))
             except (Failed, Unread, Damaged, OSError) as fault:
@@ -155,7 +170,7 @@ class Runs:
         number = self.store.insert(
             "INSERT INTO run(day, input, kind, label, instance, tides, budget, program, state, began) VALUES (?, ?, 'plan', ?, ?, ?, ?, ?, 'running', ?)",
             day, input_id, label, inputs.instance, inputs.tides, budget, self.program.digest, time.time())
-        folder = tempfile.mkdtemp(prefix=f"run-{number}-", dir=self.store.folder)
+        folder = tempfile.mkdtemp(prefix=f"{RUN}{number}-", dir=self.store.folder)
         self._set(number, folder=folder)
         return number, folder
 
@@ -199,7 +214,7 @@ class Runs:
         if number in self.asked or self.ending:
             self._close(number, "stopped", [])
             return
-        folder = tempfile.mkdtemp(prefix=f"run-{number}-", dir=self.store.folder)
+        folder = tempfile.mkdtemp(prefix=f"{RUN}{number}-", dir=self.store.folder)
         flat = flat_problem(self.program, inputs)
         follower = Follower(os.path.join(folder, "proof"), flat, len(flat.values) + 1 if inputs.plan else 1)
         with self.lock:
