@@ -45,6 +45,18 @@ def example(*names: str) -> list[tuple[str, str]]:
     return found
 
 
+def ready_made(name: str) -> list[tuple[str, str]]:
+    """The files of a port that the package begins with."""
+    root = os.path.join(os.path.dirname(days.__file__), "..", "library", "ports", name)
+    found = []
+    for folder in (root, os.path.join(root, "tides")):
+        for file in sorted(os.listdir(folder)):
+            if os.path.isfile(os.path.join(folder, file)):
+                with open(os.path.join(folder, file), encoding="utf-8") as opened:
+                    found.append((file, opened.read()))
+    return found
+
+
 @pytest.fixture
 def store(tmp_path: object) -> Store:
     return Store(os.path.join(str(tmp_path), "data"))

@@ -7,7 +7,7 @@ import time
 from typing import Any
 
 import pytest
-from conftest import entered, example
+from conftest import entered, example, ready_made
 from tidewise_board.core import race
 from tidewise_board.core.loading import centimetres
 from tidewise_board.core.runs import Inputs, Runs
@@ -152,3 +152,32 @@ def test_a_source_that_is_none(client: Any, base: str, whole: bool) -> None:
     assert said.status_code == 200 and not said.json["good"] and [one for one in said.json["told"] if not one["hint"]]
     assert client.get(f"/day/{number}").status_code == 200 and client.get(f"/day/{number}/windows").status_code == 200
     assert client.post(f"/api/day/{number}/plan", json={"budget": 1}, headers=token).status_code == 409
+
+
+def test_a_day_has_a_name_and_is_copied(client: Any, runs: Runs) -> None:
+    token = entered(client)
+    number = day(client, token, *example("contested.json", "day-tides.csv"))
+    planned(client, token, runs, number)
+    assert client.post(f"/api/day/{number}/name", json={"name": " Monday\x07 "}, headers=token).json["name"] == "Monday"
+    assert client.post(f"/api/day/{number}/name", json={"name": " "}, headers=token).status_code == 400
+    other = client.post(f"/api/day/{number}/copy", json={}, headers=token).json["day"]
+    page = client.get("/").data.decode()
+    assert other != number and ">Monday copy</a>" in page and page.count("not planned") == 1
+    assert b"Albatross" in client.get(f"/day/{other}").data
+    assert client.post("/api/day/99/copy", json={}, headers=token).status_code == 404
+    assert client.post(f"/api/day/{number}/copy", json={}).status_code == 403
+
+
+def test_a_ship_that_never_sails_is_told_at_her_row(client: Any) -> None:
+    """Of a line-up with a row for each call, whose ships are two for a row."""
+    token = entered(client)
+    files = dict(ready_made("start"))
+    lines = files["ships.csv"].splitlines()
+    place = next(number for number, line in enumerate(lines) if line.startswith("Curlew"))
+    lines[place] = lines[place].replace("9.80,16.40", "18.90,19.40")
+    files["ships.csv"] = "\n".join(lines) + "\n"
+    number = day(client, token, *files.items())
+    page = client.get(f"/day/{number}").data.decode()
+    told = json.loads(page.partition('id="data">')[2].partition("</script>")[0])["first"]["told"]
+    (one,) = [one for one in told if "in any slot" in one["said"]]
+    assert (one["row"], one["column"]) == (2, "name") and "Curlew out can't sail in any slot: too little water" in one["said"]

@@ -218,3 +218,15 @@ def test_a_race_of_seeds(planner: Planner, tmp_path: Any) -> None:
     wait(lambda: planner.driver.execute_script("return document.body.dataset.shown") not in (None, str(number)))
     # The program writes what it found by going on only at the end: so the page says that there is nothing, and the plan before stays.
     assert "writes its lines when it ends" in planner.text("meaning")
+
+
+def test_a_day_is_named_and_copied(planner: Planner) -> None:
+    planner.drop("contested.json", "day-tides.csv")
+    name = planner.at("name")
+    name.send_keys(Keys.CONTROL, "a")
+    name.send_keys("Monday", Keys.TAB)
+    wait(lambda: planner.driver.find_element(By.CLASS_NAME, "dayname").text == "Monday")
+    planner.go("/")
+    planner.driver.find_element(By.CSS_SELECTOR, "[aria-label='copy Monday']").click()
+    wait(lambda: "/day/" in planner.driver.current_url and planner.at("name").get_attribute("value") == "Monday copy")
+    ready(planner)

@@ -7,7 +7,7 @@ import sqlite3
 import time
 
 import pytest
-from conftest import example
+from conftest import example, ready_made
 from hard import hard
 from tidewise_board.core import days, race
 from tidewise_board.core.differences import differences
@@ -226,18 +226,6 @@ def test_ships_keep_their_route_and_their_pairs(program: Program) -> None:
     for origins in ([0], ["0"] * 10, [True] * 10):
         with pytest.raises(ValueError):
             days.source_of({**json.loads(source.bytes()), "origins": origins})
-
-
-def ready_made(name: str) -> list[tuple[str, str]]:
-    """The files of a port that the package begins with."""
-    root = os.path.join(os.path.dirname(days.__file__), "..", "library", "ports", name)
-    found = []
-    for folder in (root, os.path.join(root, "tides")):
-        for file in sorted(os.listdir(folder)):
-            if os.path.isfile(os.path.join(folder, file)):
-                with open(os.path.join(folder, file), encoding="utf-8") as opened:
-                    found.append((file, opened.read()))
-    return found
 
 
 def test_a_line_up_with_a_row_for_each_call(store: Store, program: Program, runs: Runs) -> None:

@@ -62,6 +62,9 @@ def test_another_user_without_the_key(client: Any, tmp_path: object) -> None:
     for path in ("/", "/api/owner", "/static/board.css", "/picture/1.svg", "/wall", "/plan/1/bundle.zip", "/object/" + "0" * 64, "/enter",
                  "/enter?key=", "/enter?key=ä"):
         assert client.get(path).status_code == 403, path
+    assert b"Open the address that the board printed" in client.get("/").data
+    entered(client)
+    assert client.get("/api/run/99").json["error"] and b"There is no such page" in client.get("/day/99").data
     folder = os.path.join(str(tmp_path), "kept")
     Store(folder)
     key = key_of(folder)
@@ -116,7 +119,8 @@ def test_who_only_looks_on(client: Any, store: Store, runs: Runs) -> None:
     assert client.get("/wall/1").status_code == 200 and client.get("/wall").headers["Location"] == "/wall/1"
     seen = client.get("/api/wall/1").json
     assert seen["headline"].endswith("457,229.0 t") and len(seen["rows"]) == 10 and seen["issue"] is None
-    assert b"board-token" not in client.get("/wall/1").data
+    for path in ("/wall/1", "/wall/99", "/picture/99.svg", "/static/nothing.js"):
+        assert b"board-token" not in client.get(path).data and token["X-Board"].encode() not in client.get(path).data
     for path in ("/", "/day/1", "/day/1/plan/1", "/api/owner", "/plan/1/sheet", "/object/" + "0" * 64):
         assert client.get(path).status_code == 403, path
     for path in ("/api/run/1/accept", "/wall/1", "/api/wall/1", "/api/name"):

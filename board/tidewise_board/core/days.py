@@ -62,6 +62,7 @@ class Made:
     instance: str | None
     tides: str | None
     told: list[Told]
+    rows: list[Row] = field(default_factory=list)
 
     @property
     def good(self) -> bool:
@@ -330,4 +331,4 @@ def make(source: Source, program: Program) -> Made:
     store = program.store
     said = program.ask("lint", Text(store.put(instance.encode()), "day.json"), Text(store.put(tides.encode()), "tides.csv"))
     told += [placed(fault, source, written.rows) for fault in faults_of(said.output)]
-    return Made(instance, tides, told)
+    return Made(instance, tides, told, written.rows)

@@ -5,9 +5,9 @@ import os
 from dataclasses import dataclass
 from typing import Any, cast
 
-from flask import Flask, abort, current_app, request
+from flask import Flask, abort, current_app, render_template, request
 
-from .guard import guard, token_of
+from .guard import READABLE, guard, token_of
 from ..core import race
 from ..core.program import Failed, Program
 from ..core.reading import Unread, tonnes
@@ -71,6 +71,13 @@ def create(store: Store, program: Program, runs: Runs, key: str, port: int) -> F
     @app.errorhandler(ValueError)
     def wrong(cause: ValueError) -> tuple[dict[str, str], int]:
         return {"error": f"{cause}"}, 400
+
+    @app.errorhandler(404)
+    def nothing(cause: Exception) -> Any:
+        # A page of its own carries the token: who only looks on gets none.
+        if request.path.startswith(("/api/", *READABLE)):
+            return {"error": "the board has no such thing"}, 404
+        return render_template("missing.html", page=""), 404
 
     @app.errorhandler(KeyError)
     def missing(cause: KeyError) -> tuple[dict[str, str], int]:

@@ -9,10 +9,12 @@ from flask import Blueprint, Response, abort, redirect, render_template, request
 
 from ..core import race
 from ..core.days import MOST_TEXT, Made, NoDay, Source, Told, dropped, make, source_of, waypoints_of
+from ..core.facts import port_of, said_of
 from ..core.program import Text
 from ..core.reading import windows_of
 from ..core.runs import Inputs
 from ..core.shown import shown
+from ..library.heads import Row
 from .app import Board, board, said, whole
 
 pages = Blueprint("days", __name__)
@@ -62,14 +64,21 @@ def answer_of(here: Board, made: Made) -> dict[str, Any]:
         empty = here.store.put(b"cert 3\n")
         drawn = here.program.ask("chart", "port", Text(instance, "day.json"), Text(tides, "tides.csv"), Text(empty, "cert"))
         answer["picture"] = drawn.output if drawn.status == 2 else None
-        answer["told"] += [asdict(one) for one in without_slots(here, instance, tides)]
+        answer["told"] += [asdict(one) for one in without_slots(here, instance, tides, made.rows)]
     return answer
 
 
-def without_slots(here: Board, instance: str, tides: str) -> list[Any]:
+def without_slots(here: Board, instance: str, tides: str, rows: list[Row]) -> list[Told]:
+    """A hint at each ship that can't sail in any slot, with why."""
+    port, found = port_of(here.program, instance), []
     windows = windows_of(here.program.ask("windows", "port", Text(instance, "day.json"), Text(tides, "tides.csv")).output)
-    return [Told("ships", "this ship can't sail in any slot: " + "; ".join(sorted({one.said for one in ship}))[:200], True, row, "name")
-            for row, ship in enumerate(windows) if not any(one.kind == "from" for one in ship)]
+    for ship, stretches in enumerate(windows):
+        if any(one.kind == "from" for one in stretches):
+            continue
+        why = "; ".join(dict.fromkeys(said_of(one.kind, one.said, port.clock) for one in stretches))[:200]
+        row, column = (rows[ship].number - 2, rows[ship].head("name")) if rows else (ship, "name")
+        found.append(Told("ships", f"{port.ships[ship]} can't sail in any slot: {why}", True, row, column))
+    return found
 
 
 @pages.get("/")
@@ -99,10 +108,34 @@ def new_day() -> Any:
     except NoDay as cause:
         raise ValueError(f"{cause}") from None
     name = next((name.rsplit(".", 1)[0] for name, text in files if text.lstrip().startswith("{")), "day")
-    name = "".join(letter for letter in name if letter.isprintable())[:80] or "day"
+    name = plain(name) or "day"
     here = board()
     number = here.store.insert("INSERT INTO day(name, draft) VALUES (?, ?)", name, here.store.put(source.bytes()))
     return {"day": number}
+
+
+def plain(name: str) -> str:
+    """A day's name, of at most 80 letters that are seen."""
+    return "".join(letter for letter in name if letter.isprintable()).strip()[:80]
+
+
+@pages.post("/api/day/<int:number>/name")
+def rename(number: int) -> Any:
+    """Gives a day another name; its plans and runs keep theirs."""
+    day_of(number)
+    name = plain(str(said().get("name", "")))
+    if not name:
+        raise ValueError("a day has a name")
+    with board().store.change() as db:
+        db.execute("UPDATE day SET name = ? WHERE id = ?", (name, number))
+    return {"name": name}
+
+
+@pages.post("/api/day/<int:number>/copy")
+def copy(number: int) -> Any:
+    """A new day with the same sources, as a beginning; plans aren't copied."""
+    day = day_of(number)
+    return {"day": board().store.insert("INSERT INTO day(name, draft) VALUES (?, ?)", plain(f"{day['name'][:75]} copy"), day["draft"])}
 
 
 def source(day: dict[str, Any]) -> Source:

@@ -67,7 +67,9 @@ def head_of(issue: Issue, run: dict[str, Any]) -> Head:
     plan, here = issue.plan, board()
     row = here.runs.get(plan["run"])
     title = f"{day_of(plan['day'])['name']}, issue {issue.number} (plan {plan['number']})"
-    issued = f"Issued {plan['frozen']} UTC." if plan["frozen"] else "NOT ISSUED."
+    port = port_of(here.program, row["instance"])
+    issued = (f"Issued {plan['frozen']} UTC." if plan["frozen"] else "NOT ISSUED.") + (
+        f" The day is {port.start[:10]}, and 1d the day after it." if port.start and port.dated else "")
     sums = (f"verify: {run['verdict']}; instance {row['instance'][:16]}, tides {row['tides'][:16]}, certificate {(row['cert'] or '')[:16]};"
             f" {build_words(here.program)}, {here.program.digest[:16]}")
     return Head(title, run["headline"], run["meaning"], issued, sums)
@@ -127,7 +129,8 @@ def text(number: int) -> Response:
     found = lanes(here.program, inputs_of(run), table_of(here.runs, run), berths_of(here, run["input"]))
     berths = [f"{lane.name}: " + "; ".join(stay_words(port, stay) for stay in lane.stays) for lane in found]
     head = head_of(issue, shown(here.runs, plan["run"]))
-    return Response(text_for_pilots(head, rows, berths, issue.said), mimetype="text/plain")
+    changed = issue.said if issue.last else ["this is the first issue"]
+    return Response(text_for_pilots(head, rows, berths, changed), mimetype="text/plain")
 
 
 @pages.get("/plan/<int:number>/sheet")
