@@ -2,7 +2,7 @@
 use Rattle.std.proofs.Common.{◌≡◌, ◌⊎◌, ◌∙◌, ℕ, List, Option, inl, inr, refl, sym, ap}
 use Rattle.hw_model.specs.Problem.{Problem}
 use Rattle.hw_cert.specs.declared.version.Version.{Version}
-use Rattle.hw_cert.specs.declared.version.Version.TheVariants.{Two}
+use Rattle.hw_cert.specs.declared.version.Version.TheVariants.{Three}
 use Rattle.hw_repair.specs.Wishes.{PlanParts}
 use Rattle.hw_report.specs.Reports.{Report, Naming}
 use Rattle.hw_subject.specs.Subjects.{Subject, Topic, topic_subject}
@@ -70,10 +70,10 @@ pub one_check : (most : Version) (bytes : Topic) (cert : List ℕ) (r t : Report
 one_check most bytes cert r t h g = one_across h.topic g.topic bytes h.held g.held (by_cert most cert) r t h.told g.told (check_reported h) (check_reported g)
 
 -- a renewal reports what a check does
-as_checked : {bytes : Topic} {cert : List ℕ} {r : Report} → RenewalOf bytes cert r → CheckOf Two bytes cert r
+as_checked : {bytes : Topic} {cert : List ℕ} {r : Report} → RenewalOf bytes cert r → CheckOf Three bytes cert r
 as_checked {r = r} h = record { topic = h.topic; name = h.name; held = h.old.held; told = h.told; cert_told = h.cert_told; says = renewed_as_checked_law h.topic h.name h.proof h.old h.new r h.says }
 
-pub as_check : {bytes : Topic} {cert : List ℕ} {r : Report} → CheckOf Two bytes cert r ⊎ RenewalOf bytes cert r → CheckOf Two bytes cert r
+pub as_check : {bytes : Topic} {cert : List ℕ} {r : Report} → CheckOf Three bytes cert r ⊎ RenewalOf bytes cert r → CheckOf Three bytes cert r
 as_check (inl h) = h
 as_check (inr h) = as_checked h
 

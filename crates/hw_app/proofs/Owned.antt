@@ -1,5 +1,6 @@
 -- A certificate that a search wrote, checked.
-use Rattle.std.proofs.Common.{◌≡◌, ◌⊎◌, ◌+◌, ◌++◌, ◌∙◌, ℕ, true, List, [], ◌∷◌, Option, Some, None, Result, Ok, All, inl, inr, refl, sym, ap, subst, append-nil, append_assoc}
+use Rattle.std.proofs.Common.{◌≡◌, ◌⊎◌, ◌+◌, ◌++◌, ◌∙◌, ℕ, Bool, true, List, [], ◌∷◌, Option, Some, None, Result, Ok, All, inl, inr, refl, sym, ap, subst, append-nil, append_assoc}
+use Rattle.std.specs.Prelude.{if◌then◌else◌}
 use Rattle.std.specs.List.{AllByRecursion, list_all}
 use Rattle.std.proofs.lemmas.Bool.{and_parts}
 use Rattle.std.proofs.lemmas.List.Elements.{All-nil, All-cons, All-head, All-tail, All-append}
@@ -18,7 +19,7 @@ use Rattle.hw_cert_laws.proofs.Fitting.{renewing_keeps}
 use Rattle.hw_cert_laws.proofs.Refused.{plain_judge, from_valid, valid_from}
 use Rattle.hw_cert.specs.declared.stop.FormWord.{FormWord}
 use Rattle.hw_cert.specs.declared.version.Version.{Version}
-use Rattle.hw_cert.specs.declared.version.Version.TheVariants.{Two}
+use Rattle.hw_cert.specs.declared.version.Version.TheVariants.{Two, Three}
 use Rattle.hw_cert.specs.Certs.{Cert, BadLine, cert_read}
 use Rattle.hw_cert.specs.Laws.{StreamAgrees, IsLine}
 use Rattle.hw_cert.specs.Stream.{CertEnd, complete, broken, overlong, cert_stream}
@@ -30,6 +31,7 @@ use Rattle.hw_cert.proofs.Shapes.{fits_problem}
 use Rattle.hw_cert.proofs.WholeCerts.{cert_again, cert_back, stream_agrees}
 use Rattle.hw_cert.proofs.ValidCerts.{one_cert}
 use Rattle.hw_command.specs.Certificates.{cert_outcome, end_outcome, line_outcome, lines_outcome}
+use Rattle.hw_command_check.specs.Renewing.{version_for}
 use Rattle.hw_app.specs.Laws.{IsShownByCertificate, OwnCertificate, RenewedCertificate, ShowsValid}
 use Rattle.hw_command.specs.declared.outcome.CertOutcome.{CertOutcome}
 use Rattle.hw_command.specs.declared.outcome.CertOutcome.TheVariants.{Shows}
@@ -165,10 +167,16 @@ by_verdict : {A : Type 0} {o : CertOutcome} {v w : Verdict} → v ≡ w → A �
 by_verdict e (inl a) = inl a
 by_verdict e (inr p) = inr (p ∙ ap Shows e)
 
+-- they are written in the second version
+plain_text : (all : List Line) → All Plain all → cert_text (version_for all) all ≡ cert_text Two all
+plain_text all h = ap (λ (b : Bool). cert_text (if b then Two else Three) all) (plain_all all h)
+
 pub renewed_certificate : RenewedCertificate
 renewed_certificate f all flat plain fit valid =
     let again = renewing_keeps f all valid in
-    by_verdict again.same_verdict (own_certificate f (renewed all) flat (renewed_plain 1 all plain) (again.fit fit) again.valid)
+    let each = renewed_plain 1 all plain in
+    let second = by_verdict again.same_verdict (own_certificate f (renewed all) flat each (again.fit fit) again.valid) in
+    subst (λ (text : List ℕ). ((cert_stream (shape_of f) text).stop ≡ overlong) ⊎ (cert_outcome f text ≡ Shows (verdict f all))) (sym (plain_text (renewed all) each)) second
 
 -- lines that are read are plain
 read_plain : (f : Problem) (bytes : List ℕ) (version : Version) (all : List Line) (lines : List Line) (stop : CertEnd) → (stop ≡ overlong → ⊥) → All Plain lines → cert_read (shape_of f) bytes ≡ Ok (record { version = version; lines = all }) → StreamAgrees stop lines (cert_read (shape_of f) bytes) → All Plain all

@@ -35,8 +35,8 @@ use Rattle.hw_app.proofs.Told.{all_told}
 
 pub one_certificate_report : OneCertificateReport
 one_certificate_report = record {
-  check = λ bytes cert r t h g. one_check Two bytes cert r t (as_check h) (as_check g);
-  verify = λ bytes cert r t h g. one_check Three bytes cert r t h g;
+  check = λ bytes cert r t h g. one_check Two bytes cert r t h g;
+  verify = λ bytes cert r t h g. one_check Three bytes cert r t (as_check h) (as_check g);
 }
 
 abbrev by_chart : List ℕ → Last

@@ -65,10 +65,10 @@ pub record ClashCheckOf (bytes : Topic) (clash cert : List ℕ) (r : Report) : T
 
 -- ---- one report
 
--- of a certificate of the first two versions, and the same whether it is checked or renewed; and of one of any version
+-- of a certificate of the first two versions; and of one of any version, the same whether it is verified or renewed
 pub record OneCertificateReport : Type 0 where
-  pub check : (bytes : Topic) (cert : List ℕ) → OneReport (λ r. CheckOf Two bytes cert r ⊎ RenewalOf bytes cert r)
-  pub verify : (bytes : Topic) (cert : List ℕ) → OneReport (CheckOf Three bytes cert)
+  pub check : (bytes : Topic) (cert : List ℕ) → OneReport (CheckOf Two bytes cert)
+  pub verify : (bytes : Topic) (cert : List ℕ) → OneReport (λ r. CheckOf Three bytes cert r ⊎ RenewalOf bytes cert r)
 
 -- a picture, and what is reported where nothing is drawn
 abbrev pub OneReportOfChart : Type 0

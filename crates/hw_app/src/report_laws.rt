@@ -2,8 +2,8 @@
 
 ghost use Rattle.hw_app.specs.LawsOfReports.{ChartsBytesAsChecked, ChartsBytesAsVerified, OneCertificateReport, OneReportOfChart, OneReportOfClash, OneFlatText, PrintedBounds, VerifiedAsChecked};
 
-/// The bytes of a subject's inputs and of a certificate decide the report of `check` and of `renew`,
-/// and it is the same one; and that of `verify`.
+/// The bytes of a subject's inputs and of a certificate decide the report of `check`; and that of
+/// `verify` and of `renew`, and it is the same one.
 pub fn one_certificate_report()
     ensures { OneCertificateReport }
 {}

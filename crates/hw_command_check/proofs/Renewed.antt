@@ -5,7 +5,7 @@ use Rattle.hw_desk.specs.State.{DeskState}
 use Rattle.hw_desk.specs.declared.desk.Feed.TheVariants.{Certificate}
 use Rattle.hw_cert_lines.specs.declared.check.Verdict.{Verdict}
 use Rattle.hw_cert_lines.specs.Lines.{last_table}
-use Rattle.hw_cert.specs.declared.version.Version.TheVariants.{Two}
+use Rattle.hw_cert.specs.declared.version.Version.TheVariants.{Three}
 use Rattle.hw_report.specs.Reports.{Report, checked}
 use Rattle.hw_command.specs.Carries.{Carries}
 use Rattle.hw_command.specs.Certificates.{report_of}
@@ -44,19 +44,19 @@ use Rattle.hw_subject.proofs.Shows.{ReadsOf, shown_of}
 -- why there is no subject is said as after a check
 renews_on : (topic : Topic) (cert proof : List ℕ) (x y : DeskState) (r : Report) → (topic_subject topic).Refuses x.held r → Renews (topic_subject topic) cert proof x y r
 renews_on topic cert proof x y (checked w bound ships names) h = absurd ((certless topic).silent x.held (checked w bound ships names) h refl)
-renews_on topic cert proof x y r h = refuses_on (topic_subject topic) Two cert x.held r (certless topic) h
+renews_on topic cert proof x y r h = refuses_on (topic_subject topic) Three cert x.held r (certless topic) h
 
 -- the lines were those of the judged problem
 own_rewrites : (s : Subject) {cert proof : List ℕ} {x y z : DeskState} {given : Given} {read : ReadCert (Unit {0})} {w : Verdict} {sent : Result Unit Unit} → (h : ReadsSubject s x y given) → Rewrites (searched_in given.flat given.repair) cert proof y z read w sent → Rewrites (judged s h.value) cert proof y z read w sent
 own_rewrites s {cert = cert} {proof = proof} {y = y} {z = z} {read = read} {w = w} {sent = sent} h k = subst (λ (f : Problem). Rewrites f cert proof y z read w sent) h.searched k
 
 -- what they show, by the bytes held at first
-abbrev rewritten_shows : (topic : Topic) {cert proof : List ℕ} {x y z : DeskState} {given : Given} {read : ReadCert (Unit {0})} {w : Verdict} {sent : Result Unit Unit} → (h : ReadsSubject (topic_subject topic) x y given) → (k : Rewrites (judged (topic_subject topic) h.value) cert proof y z read w sent) → Shown (topic_subject topic) h.value Two (x.held cert) w read.bound (last_table k.reads.reads.1.lines)
+abbrev rewritten_shows : (topic : Topic) {cert proof : List ℕ} {x y z : DeskState} {given : Given} {read : ReadCert (Unit {0})} {w : Verdict} {sent : Result Unit Unit} → (h : ReadsSubject (topic_subject topic) x y given) → (k : Rewrites (judged (topic_subject topic) h.value) cert proof y z read w sent) → Shown (topic_subject topic) h.value Three (x.held cert) w read.bound (last_table k.reads.reads.1.lines)
 rewritten_shows topic {cert = cert} {x = x} {y = y} {read = read} {w = w} h k =
     let s = topic_subject topic in
     let lines = k.reads.reads.1 in
-    let found = subst (λ (o : CertOutcome). ReadsOf s h.value Two (y.held cert) lines.lines o) k.shows lines.keeps in
-    shown_of s h.value Two (x.held cert) lines.lines w read.bound (modelled topic h) lines.formed lines.last (subst (λ (told : Option (List ℕ)). ReadsOf s h.value Two told lines.lines (Shows w)) (ap (λ held. held cert) h.entered.begins.held) found)
+    let found = subst (λ (o : CertOutcome). ReadsOf s h.value Three (y.held cert) lines.lines o) k.shows lines.keeps in
+    shown_of s h.value Three (x.held cert) lines.lines w read.bound (modelled topic h) lines.formed lines.last (subst (λ (told : Option (List ℕ)). ReadsOf s h.value Three told lines.lines (Shows w)) (ap (λ held. held cert) h.entered.begins.held) found)
 
 -- ---- the exits
 
@@ -101,8 +101,8 @@ broke topic {cert = cert} {x = x} z read w h rewrites ends =
     }
 
 -- the certificate isn't renewed, and what is said after a check is said here
-kept_back : (topic : Topic) {cert proof : List ℕ} {x y end : DeskState} {given : Given} {e : Status} (z : DeskState) (read : ReadCert (Unit {0})) (o : CertOutcome) → read.outcome ≡ o → ReadsSubject (topic_subject topic) x y given → ReadsCert Two KeepsNone (searched_in given.flat given.repair) cert y z (Ok read)
-    → (Checks (topic_subject topic) Two cert x.held (report_of (naming_of given.named) read.bound (repair_ships given.flat (plan_in given.repair)) o) → Renews (topic_subject topic) cert proof x z (report_of (naming_of given.named) read.bound (repair_ships given.flat (plan_in given.repair)) o))
+kept_back : (topic : Topic) {cert proof : List ℕ} {x y end : DeskState} {given : Given} {e : Status} (z : DeskState) (read : ReadCert (Unit {0})) (o : CertOutcome) → read.outcome ≡ o → ReadsSubject (topic_subject topic) x y given → ReadsCert Three KeepsNone (searched_in given.flat given.repair) cert y z (Ok read)
+    → (Checks (topic_subject topic) Three cert x.held (report_of (naming_of given.named) read.bound (repair_ships given.flat (plan_in given.repair)) o) → Renews (topic_subject topic) cert proof x z (report_of (naming_of given.named) read.bound (repair_ships given.flat (plan_in given.repair)) o))
     → Ends (report_of (naming_of given.named) read.bound (repair_ships given.flat (plan_in given.repair)) o ∷ []) z end e → Carries (renew_task (topic_subject topic) cert proof) x end e
 kept_back topic {cert = cert} {proof = proof} {x = x} {given = given} z read o is h m same ends =
     let s = topic_subject topic in
@@ -111,7 +111,7 @@ kept_back topic {cert = cert} {proof = proof} {x = x} {given = given} z read o i
       mid = z;
       reports = of o ∷ [];
       works = subst (λ (o : CertOutcome). Works (s.inputs ++ named_feed Certificate cert ∷ []) (s.Gives x.held) (Some proof) x z (of o)) is (reading_works topic (Some proof) (Ok read) h m);
-      says = λ own. same (subst (λ (o : CertOutcome). Checks s Two cert x.held (of o)) is (read_says topic read h m));
+      says = λ own. same (subst (λ (o : CertOutcome). Checks s Three cert x.held (of o)) is (read_says topic read h m));
       ends = ends;
     }
 
@@ -141,7 +141,7 @@ renew_meets topic z WriteFailed h k ends = broke topic z k.0 k.1 h k.2 ends
 
 -- ---- its report is one of a check
 
-renewed_checks : (s : Subject) (cert proof : List ℕ) (old new : DeskState) (r : Report) → Renews s cert proof old new r → Checks s Two cert old.held r
+renewed_checks : (s : Subject) (cert proof : List ℕ) (old new : DeskState) (r : Report) → Renews s cert proof old new r → Checks s Three cert old.held r
 renewed_checks s cert proof old new (checked w bound ships names) h = h.checked
 renewed_checks s cert proof old new r h = h
 

@@ -2,7 +2,7 @@
 
 ghost use Rattle.hw_command_check.specs.Laws.{RenewedAsChecked};
 
-/// A certificate is reported the same whether it is checked or renewed.
+/// A certificate is reported the same whether it is verified or renewed.
 pub fn renewed_as_checked()
     ensures { RenewedAsChecked }
 {}

@@ -1,7 +1,12 @@
 //! A certificate that is checked, and sent to Proof renewed.
 
 ghost use Rattle.std.specs.Prelude.{◌≡◌, IfSome, false};
+ghost use Rattle.std.specs.List.{list_all};
 ghost use Rattle.std.specs.Option.{option_map};
+ghost use Rattle.hw_cert_lines.specs.Tolled.{is_plain};
+ghost use Rattle.hw_cert.specs.Texts.{cert_text};
+ghost use Rattle.hw_command.specs.Sending.{SendsTo};
+ghost use Rattle.hw_command_check.specs.Renewing.{version_for};
 ghost use Rattle.hw_desk.specs.State.{IsNewDesk};
 ghost use Rattle.hw_desk.specs.declared.desk.Feed.TheVariants.{Certificate};
 ghost use Rattle.hw_desk.specs.declared.desk.Tray.TheVariants.{Proof};
@@ -15,12 +20,12 @@ ghost use Rattle.hw_command_check.specs.Renews.{renew_task};
 ghost use Rattle.hw_command_check.specs.Rewriting.{RenewsTo, report_of_renewal};
 
 use crate::checking::reading_report;
-use hw_cert::Version;
+use hw_cert::{Line, Version};
 use hw_check::renewed;
 use hw_command::{
-    CertOutcome, CertStop, ReadCert, Status, finish, finish_with, read_cert, send_lines,
+    CertOutcome, CertStop, ReadCert, Status, finish, finish_with, read_cert, send_lines, send_third,
 };
-use hw_desk::Desk;
+use hw_desk::{Desk, DeskFailed};
 use hw_flat::Flat;
 use hw_report::Report;
 use hw_subject::{Given, Subject, read_subject};
@@ -36,9 +41,10 @@ enum Renewal<'f> {
     WriteFailed,
 }
 
-/// Reads the subject, checks a certificate of the first two versions, sends its lines to Proof without
-/// its deletions and with each clause deleted right after the last line that names it, and reports what
-/// it shows.
+/// Reads the subject, checks a certificate of any version, sends its lines to Proof without its deletions
+/// and with each clause deleted right after the last line that names it, and reports what it shows, with
+/// its bound. Tolls, tariffs and bounds are kept. Lines that speak of none go into a certificate of the
+/// second version, others into one of the third.
 pub fn renew<D: Desk>(
     alloc: Global,
     desk: &mut D,
@@ -76,7 +82,7 @@ fn renew_to<'f, D: Desk>(
         bound,
         kept: lines,
         checker,
-    } = match read_cert(alloc, desk, flat, cert, Version::Two, lines) {
+    } = match read_cert(alloc, desk, flat, cert, Version::Three, lines) {
         Ok(read) => read,
         Err(stop) => return Renewal::Checked(Err(stop)),
     };
@@ -92,9 +98,43 @@ fn renew_to<'f, D: Desk>(
     let Ok(lines) = renewed(alloc, lines) else {
         return Renewal::Checked(Err(CertStop::NoMemory));
     };
-    match send_lines(desk, &lines, proof) {
+    match send_renewed(desk, &lines, proof) {
         Ok(()) => Renewal::Checked(Ok(read)),
         Err(_) => Renewal::WriteFailed,
+    }
+}
+
+/// Makes Proof under its name and sends these lines there, in the version for them. It takes no memory.
+fn send_renewed<D: Desk>(desk: &mut D, lines: &[Line], proof: &str) -> Result<(), DeskFailed>
+    requires unmade { ((D.state desk.old).trays Proof).made ≡ false }
+    ensures { SendsTo proof.now (cert_text (version_for lines.now) lines.now) (D.state desk.old) (D.state desk.new) result }
+{
+    if are_plain(lines) {
+        send_lines(desk, lines, proof)
+    } else {
+        send_third(desk, lines, proof)
+    }
+}
+
+/// Whether none of the lines speaks of tolls or prices.
+fn are_plain(lines: &[Line]) -> bool
+    ensures { result ≡ list_all is_plain lines.now }
+{
+    lines.iter().all(is_plain)
+}
+
+/// Whether the line speaks of no toll and no price.
+fn is_plain(line: &Line) -> bool
+    ensures { result ≡ is_plain line.now }
+{
+    match line {
+        Line::Table(_)
+        | Line::Explain { .. }
+        | Line::Order { .. }
+        | Line::Goal { .. }
+        | Line::Lemma { .. }
+        | Line::Delete { .. } => true,
+        Line::Toll { .. } | Line::Tariff { .. } | Line::Priced { .. } | Line::Bound { .. } => false,
     }
 }
 
