@@ -1,10 +1,10 @@
 #!/usr/bin/env python3
-"""Draws a clash of a port as SVG on standard output, by docs/PICTURE.md.
+"""Draws a clash of a port as SVG on standard output.
 
     chart_clash.py port INSTANCE TIDES CLASH CERT
 
-It draws the port as chart.py beside it does without a timetable, and lays a mark over it for each kept restriction. It trusts
-the clash and its certificate, and the form of its inputs.
+It draws the port as chart.py beside it does without a timetable, and lays a mark over it for each kept restriction, in the order of
+the clash. It trusts the clash and its certificate, and the form of its inputs. Docstrings and texts here are the rules for these pictures.
 """
 
 import json
@@ -73,6 +73,17 @@ MARKS = """<style>
 
 
 def drawn(port, tide, place, restriction, table):
+    """What marks a kept restriction; `place` is its place in the clash, from 0, and `table` that of its `drop` line: the one that meets all
+    the others. y v is that of the row of ship v.
+
+        window               block cw 4 12 (y v + 21) (y v + 33), and a frame of 5 at y v + 26 around
+                             steps cw 0 1 (0 where the ship may not sail, else 1) over all slots: by its window, its tide or what is closed
+        separation,          of two ships v and w a bracket, shape cp "M{x} {y v + 13}h5V{y w + 13}h-5" with
+        sections,            x = 983 + 9 * (place%32): a column each, so that brackets don't lie on each other
+        berth, after
+        tugs                 a frame of 56 at `tugs` around steps cl 0 tall (0 where held k > fleet, else tall) over all slots; `tall` is
+                             the greater of 1 and fleet, and held k counts the table
+    """
     kind, ships, _, _ = restriction
     slots, rows = port["slots"], chart.HEAD + chart.STRIP_STEP * len(port["waypoints"]) + 22
     y = [rows + 42 * v for v in ships]
@@ -88,6 +99,10 @@ def drawn(port, tide, place, restriction, table):
 
 
 def draw(port, tide, kept, drops):
+    """The head has the title and meaning of a clash, the badge of infeasible, no line that speaks of `clash`, and after the style sheet that of
+    the marks, the constant `CLASH_MARKS` of `hw_chart_clash`; the legend names the kinds of marks after the others. Before the last
+    `</svg>` stands the list of the marks: each is an item whose title is `esc` of the restriction's line, as `explain port` prints it.
+    """
     all_of = restrictions(port)
     kinds = {all_of[number][0] for number in kept}
     entries = (("patch", "cw", "its window or the water denies it these slots", "window" in kinds),

@@ -1,11 +1,16 @@
 #!/usr/bin/env python3
-"""Draws a repaired plan as SVG on standard output, by docs/PICTURE.md.
+"""Draws a repaired plan as SVG on standard output.
 
     chart_repair.py port INSTANCE TIDES PLAN CERT
     chart_repair.py flat NAME PLAN CERT
 
 It draws the plan as chart.py beside it does, and lays over it what became of each ship's old slot. Like that it trusts
-the certificate, which is one of the repair's problem, and the form of its inputs.
+the certificate, which is one of the repair's problem, and the form of its inputs. Docstrings and texts here are the rules for these pictures.
+
+A plan gives ship v its old slot `old v`, and unless it has sailed the earliest slot that it may have, `from v`. With a timetable ship v
+is moved if t_v isn't `old v`; it has sailed if the plan has no `from v` and `old v` is below `slots`. Without one each ship counts as
+in its old slot. Cargo and bound are those of the certificate divided by n + 1. Tugs that a plan withdraws aren't left out: panel
+and moves have the fleet of the instance or of the rule.
 """
 
 import json
@@ -37,6 +42,7 @@ MARKS = """<style>
 
 
 def meaning(table, ended, bound):
+    """What the certificate proves, of timetables that meet the plan; no line speaks of `clash`."""
     if table is not None:
         if ended:
             return "the certificate proves that no timetable that meets the plan carries more, or as much with fewer ships moved"
@@ -49,11 +55,13 @@ def meaning(table, ended, bound):
 
 
 def title(table, ended, bound, moved, cargo, amount):
+    """With a timetable `, moved {N}` at its end, after the bound, if there is one: N ships are moved."""
     said = chart.verdict_title(table, ended, cargo, None if bound is None else amount(bound))
     return said if table is None else f"{said}, moved {moved}"
 
 
 def top_part(height, said, means, sizes, sign):
+    """The head of chart.py's pictures, with the sheet of the marks, the constant `MARKS` of `hw_chart_repair`, after the style sheet."""
     out = (f'<svg xmlns="http://www.w3.org/2000/svg" width="1280" height="{height}" viewBox="0 0 1280 {height}" '
            f'role="graphics-document" aria-label="{said}" xml:lang="en" xml:space="preserve">\n<title>{said}</title>\n')
     out += chart.STYLE + MARKS + chart.block("gr", 0, 1280, 0, height) + sign
@@ -61,7 +69,7 @@ def top_part(height, said, means, sizes, sign):
 
 
 def entries(wishes, table, slots):
-    """What the legend says of the marks that stand."""
+    """What the legend says, after the others, of the marks that stand."""
     old = [wish[0] for wish in wishes]
     moved = table is not None and table != old
     sailed = any(earliest is None and o < slots and (table is None or table[v] == o) for v, (o, earliest) in enumerate(wishes))
@@ -74,6 +82,18 @@ def entries(wishes, table, slots):
 
 
 def mark(v, wish, slot, slots, span, y, when):
+    """The marks of a ship, whose row is at y. A ship that keeps its slot has none but its stripes.
+
+        over its slots    a frame of 23 at y+3, 23 tall, around: if it hasn't sailed and from v > 0, block ht 0 (from v) 0 21; if it is
+                          moved and old v < slots, block gh old (old+1) 0 21, and if t_v < slots too, the line
+                          block gh (min old t_v) (max old t_v + 1) 21 23
+        moved             titled gh 4 12 (y+21) (y+33) T; if old v < slots then pin gh old y
+        has sailed        titled sd 4 12 (y+21) (y+33) T, pin sd old y
+        T                 `ship {v} was planned for slot {old}`, or `ship {v} was planned to stay`, or `ship {v} has sailed in slot {old}`;
+                          after a slot of a port `, {when old}`
+
+    The stripes are a gradient, one to a slot, since a pattern would be stretched with the window.
+    """
     old, earliest = wish
     moved, sailed = slot != old, slot == old and earliest is None and old < slots
     inside = chart.block("ht", 0, earliest, 0, 21) if earliest is not None and earliest > 0 else ""
@@ -94,7 +114,7 @@ def mark(v, wish, slot, slots, span, y, when):
 
 
 def marks(wishes, table, slots, span, rows, when):
-    """The marks of all ships; `when` has the time of a slot, where it has one."""
+    """The marks of all ships from 0, before the last `</svg>`; `when` has the time of a slot, where it has one."""
     rank = chart.ranks(table, len(wishes))
     out = ""
     for v, wish in enumerate(wishes):
