@@ -73,7 +73,7 @@ class Watched(Room):
 
 
 class Interrupted(Room):
-    """What README.md and PLANNING.md say of runs that are stopped."""
+    """What docs/FORMS.md says of runs that are stopped."""
 
     def setUp(self):
         super().setUp()
