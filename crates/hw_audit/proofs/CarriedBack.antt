@@ -68,7 +68,7 @@ two_have : (withdrawn : ℕ) (rules : List Rule) → Each2 rules → list_all (r
 two_have withdrawn [] each = refl
 two_have withdrawn (Pair v w holes ∷ rules) each = two_have withdrawn rules each.1
 two_have withdrawn (After v w gap ∷ rules) each = two_have withdrawn rules each.1
-two_have withdrawn (Tugs fleet jobs ∷ rules) each = absurd each.0
+two_have withdrawn (Tugs fleet later jobs ∷ rules) each = absurd each.0
 
 tugs_have : (withdrawn fleet : ℕ) (jobs : List Job) → withdrawn ≤ fleet → list_all (rule_has_tugs withdrawn) (tug_rule fleet jobs) ≡ true
 tugs_have withdrawn fleet [] le = refl

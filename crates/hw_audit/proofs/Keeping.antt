@@ -23,7 +23,7 @@ all_mapped test g [] = refl
 all_mapped test g (x ∷ xs) = ap (λ (b : Bool). test (g x) && b) (all_mapped test g xs)
 
 -- a rule on tugs has the last rule's jobs
-own_jobs : (rules : List Rule) (place fleet : ℕ) (jobs : List Job) → TugsComeLast rules → slice_get rules place ≡ Some (Tugs fleet jobs) → last_jobs rules ≡ jobs
+own_jobs : (rules : List Rule) (place fleet : ℕ) (jobs : List Job) → TugsComeLast rules → slice_get rules place ≡ Some (Tugs fleet later jobs) → last_jobs rules ≡ jobs
 own_jobs rules place fleet jobs last e =
     let at : length rules - 1 ≡ place = omega (arith, last place fleet jobs e) in
     ap (λ n. jobs_of_tug_rule (slice_get rules n)) at ∙ ap jobs_of_tug_rule e
@@ -31,7 +31,7 @@ own_jobs rules place fleet jobs last e =
 pub kept_decides : (f : Problem) (table held : List ℕ) (withdrawn place : ℕ) (rule : Rule) → TugsComeLast f.rules → AreHeld f table held → slice_get f.rules place ≡ Some rule → decided_by_held_tugs f table held withdrawn rule ≡ holds_now f table withdrawn rule
 kept_decides f table held withdrawn place (Pair v w holes) last are e = refl
 kept_decides f table held withdrawn place (After v w gap) last are e = refl
-kept_decides f table held withdrawn place (Tugs fleet jobs) last are e =
+kept_decides f table held withdrawn place (Tugs fleet later jobs) last are e =
     let test = λ (tugs : ℕ). nat_le tugs (fleet - withdrawn) in
     let each = λ (slot : ℕ). sum_by (held_by table slot) jobs in
     let same : last_jobs f.rules ≡ jobs = own_jobs f.rules place fleet jobs last e in
@@ -51,13 +51,13 @@ both_same f table ship slot v w rule e =
 unmoved : (f : Problem) (table : List ℕ) (withdrawn ship slot : ℕ) (rule : Rule) → concerns (Ship ship) rule ≡ false → holds_now f table withdrawn rule ≡ holds_now f (set table ship slot) withdrawn rule
 unmoved f table withdrawn ship slot (Pair v w holes) e = sym (both_same f table ship slot v w (Pair v w holes) e)
 unmoved f table withdrawn ship slot (After v w gap) e = sym (both_same f table ship slot v w (After v w gap) e)
-unmoved f table withdrawn ship slot (Tugs fleet jobs) e = absurd cc
+unmoved f table withdrawn ship slot (Tugs fleet later jobs) e = absurd cc
 
 -- a rule on two ships holds alike whatever tugs are left
 no_tugs : (f : Problem) (table : List ℕ) (was withdrawn : ℕ) (rule : Rule) → concerns Fleet rule ≡ false → holds_now f table was rule ≡ holds_now f table withdrawn rule
 no_tugs f table was withdrawn (Pair v w holes) e = refl
 no_tugs f table was withdrawn (After v w gap) e = refl
-no_tugs f table was withdrawn (Tugs fleet jobs) e = absurd cc
+no_tugs f table was withdrawn (Tugs fleet later jobs) e = absurd cc
 
 pub others_moved : (f : Problem) (table : List ℕ) (withdrawn ship slot : ℕ) (holds : List Bool) → AreMarks f table withdrawn holds → AreOtherMarks f (set table ship slot) withdrawn (Ship ship) holds
 others_moved f table withdrawn ship slot holds marks = record {

@@ -84,7 +84,7 @@ jobs_fit : (ships : ℕ) (o : Option Rule) → IfSome o (RuleFits ships) → (le
 jobs_fit ships None fits = (omega arith, All-nil (JobFits ships))
 jobs_fit ships (Some (Pair v w holes)) fits = (omega arith, All-nil (JobFits ships))
 jobs_fit ships (Some (After v w gap)) fits = (omega arith, All-nil (JobFits ships))
-jobs_fit ships (Some (Tugs fleet jobs)) fits = (fits.few_jobs, fits.each_job)
+jobs_fit ships (Some (Tugs fleet later jobs)) fits = (fits.few_jobs, fits.each_job)
 
 fits_at : (ships : ℕ) (rules : List Rule) (place : ℕ) → All (RuleFits ships) rules → IfSome (slice_get rules place) (RuleFits ships)
 fits_at ships rules place fit = by_get (slice_get rules place) refl

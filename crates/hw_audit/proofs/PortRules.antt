@@ -18,7 +18,7 @@ use Rattle.hw_audit.specs.Keeping.{TugsComeLast}
 abbrev pub On2 : Rule → Type 0
 On2 (Pair v w holes) = Unit {0}
 On2 (After v w gap) = Unit {0}
-On2 (Tugs fleet jobs) = ⊥
+On2 (Tugs fleet later jobs) = ⊥
 
 abbrev pub Each2 : List Rule → Type 0
 Each2 [] = Unit {0}
@@ -48,17 +48,17 @@ pub all_after : (pairs : List AfterPair) → Each2 (map after_rule pairs)
 all_after [] = tt
 all_after (a ∷ pairs) = (tt, all_after pairs)
 
-not_tugs : (rules : List Rule) (place fleet : ℕ) (jobs : List Job) → Each2 rules → slice_get rules place ≡ Some (Tugs fleet jobs) → ⊥
+not_tugs : (rules : List Rule) (place fleet : ℕ) (jobs : List Job) → Each2 rules → slice_get rules place ≡ Some (Tugs fleet later jobs) → ⊥
 not_tugs [] place fleet jobs each e = absurd cc
-not_tugs (rule ∷ rules) zero fleet jobs each e = subst On2 (same_Some rule (Tugs fleet jobs) e) each.0
+not_tugs (rule ∷ rules) zero fleet jobs each e = subst On2 (same_Some rule (Tugs fleet later jobs) e) each.0
 not_tugs (rule ∷ rules) (suc place) fleet jobs each e = not_tugs rules place fleet jobs each.1 e
 
-at_last : (n place fleet : ℕ) (own jobs : List Job) → slice_get (tug_rule n own) place ≡ Some (Tugs fleet jobs) → place + 1 ≡ length (tug_rule n own)
+at_last : (n place fleet : ℕ) (own jobs : List Job) → slice_get (tug_rule n own) place ≡ Some (Tugs fleet later jobs) → place + 1 ≡ length (tug_rule n own)
 at_last n place fleet [] jobs e = absurd cc
 at_last n zero fleet (job ∷ own) jobs e = omega arith
 at_last n (suc place) fleet (job ∷ own) jobs e = absurd cc
 
-prefixed : (rules last : List Rule) (place fleet : ℕ) (jobs : List Job) → Each2 rules → ((i : ℕ) → slice_get last i ≡ Some (Tugs fleet jobs) → i + 1 ≡ length last) → slice_get (rules ++ last) place ≡ Some (Tugs fleet jobs) → place + 1 ≡ length (rules ++ last)
+prefixed : (rules last : List Rule) (place fleet : ℕ) (jobs : List Job) → Each2 rules → ((i : ℕ) → slice_get last i ≡ Some (Tugs fleet later jobs) → i + 1 ≡ length last) → slice_get (rules ++ last) place ≡ Some (Tugs fleet later jobs) → place + 1 ≡ length (rules ++ last)
 prefixed rules last place fleet jobs each own e = elim (cases_lt place (length rules)) [
   | inl lt ↦ absurd (not_tugs rules place fleet jobs each (sym (get_left rules last place lt) ∙ e))
   | inr le ↦

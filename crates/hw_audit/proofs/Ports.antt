@@ -32,7 +32,7 @@ two_as_they_are : (withdrawn : ℕ) (rules : List Rule) → Each2 rules → map 
 two_as_they_are withdrawn [] each = refl
 two_as_they_are withdrawn (Pair v w holes ∷ rules) each = ap (λ rs. Pair v w holes ∷ rs) (two_as_they_are withdrawn rules each.1)
 two_as_they_are withdrawn (After v w gap ∷ rules) each = ap (λ rs. After v w gap ∷ rs) (two_as_they_are withdrawn rules each.1)
-two_as_they_are withdrawn (Tugs fleet jobs ∷ rules) each = absurd each.0
+two_as_they_are withdrawn (Tugs fleet later jobs ∷ rules) each = absurd each.0
 
 lessened_tugs : (withdrawn fleet : ℕ) (jobs : List Job) → map (lessened_rule withdrawn) (tug_rule fleet jobs) ≡ tug_rule (fleet - withdrawn) jobs
 lessened_tugs withdrawn fleet [] = refl

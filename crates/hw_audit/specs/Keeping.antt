@@ -15,14 +15,14 @@ use Rattle.hw_audit.specs.Watching.{Watched}
 
 -- no rule but the last one is on tugs
 abbrev pub TugsComeLast : List Rule → Type 0
-TugsComeLast rules = (place fleet : ℕ) (jobs : List Job) → slice_get rules place ≡ Some (Tugs fleet jobs) → place + 1 ≡ length rules
+TugsComeLast rules = (place fleet : ℕ) (jobs : List Job) → slice_get rules place ≡ Some (Tugs fleet later jobs) → place + 1 ≡ length rules
 
 -- the jobs of a rule on tugs
 abbrev pub jobs_of_tug_rule : Option Rule → List Job
 jobs_of_tug_rule None = []
 jobs_of_tug_rule (Some (Pair v w holes)) = []
 jobs_of_tug_rule (Some (After v w gap)) = []
-jobs_of_tug_rule (Some (Tugs fleet jobs)) = jobs
+jobs_of_tug_rule (Some (Tugs fleet later jobs)) = jobs
 
 -- the jobs of the last rule, where that is on tugs
 abbrev pub last_jobs : List Rule → List Job
@@ -51,17 +51,17 @@ holds_now f table withdrawn rule = rule_holds (lessened withdrawn f) table (less
 abbrev pub decided_by_held_tugs : Problem → List ℕ → List ℕ → ℕ → Rule → Bool
 decided_by_held_tugs f table held withdrawn (Pair v w holes) = rule_holds f table (Pair v w holes)
 decided_by_held_tugs f table held withdrawn (After v w gap) = rule_holds f table (After v w gap)
-decided_by_held_tugs f table held withdrawn (Tugs fleet jobs) = list_all (λ tugs. nat_le tugs (fleet - withdrawn)) held
+decided_by_held_tugs f table held withdrawn (Tugs fleet later jobs) = list_all (λ tugs. nat_le tugs (fleet - withdrawn)) held
 
 -- which rules to test again: all at first; after a ship moved, its own and those on tugs; after the fleet changed, those on tugs
 abbrev pub concerns : Concern → Rule → Bool
 concerns Every rule = true
 concerns (Ship ship) (Pair v w holes) = v == ship || w == ship
 concerns (Ship ship) (After v w gap) = v == ship || w == ship
-concerns (Ship ship) (Tugs fleet jobs) = true
+concerns (Ship ship) (Tugs fleet later jobs) = true
 concerns Fleet (Pair v w holes) = false
 concerns Fleet (After v w gap) = false
-concerns Fleet (Tugs fleet jobs) = true
+concerns Fleet (Tugs fleet later jobs) = true
 
 -- of each rule, whether it holds
 pub record AreMarks (f : Problem) (table : List ℕ) (withdrawn : ℕ) (holds : List Bool) : Type 0 where

@@ -9,10 +9,10 @@ use Rattle.hw_chart_flat.specs.Fleets.{jobs_of_rule}
 pub rule_fits_prop : (ships : ℕ) (rule : Rule) → IsProp (RuleFits ships rule)
 rule_fits_prop ships (Pair v w holes) = hlevel props
 rule_fits_prop ships (After v w gap) = hlevel props
-rule_fits_prop ships (Tugs fleet jobs) = hlevel props
+rule_fits_prop ships (Tugs fleet later jobs) = hlevel props
 
 -- the jobs of a rule keep their limits
 pub jobs_fit : (ships : ℕ) (rule : Rule) → RuleFits ships rule → All (JobFits ships) (jobs_of_rule rule)
 jobs_fit ships (Pair v w holes) fits = λ k d lt. absurd (omega (arith, lt))
 jobs_fit ships (After v w gap) fits = λ k d lt. absurd (omega (arith, lt))
-jobs_fit ships (Tugs fleet jobs) fits = fits.each_job
+jobs_fit ships (Tugs fleet later jobs) fits = fits.each_job

@@ -10,18 +10,18 @@ use Rattle.hw_chart_flat.specs.declared.fleets.Fleets.{Fleets}
 abbrev pub is_fleet : Rule → Bool
 is_fleet (Pair v w holes) = false
 is_fleet (After v w gap) = false
-is_fleet (Tugs fleet jobs) = true
+is_fleet (Tugs fleet later jobs) = true
 
 -- the tugs that a rule's fleet has
 abbrev pub fleet_of : Rule → ℕ
 fleet_of (Pair v w holes) = 0
 fleet_of (After v w gap) = 0
-fleet_of (Tugs fleet jobs) = fleet
+fleet_of (Tugs fleet later jobs) = fleet
 
 abbrev pub jobs_of_rule : Rule → List Job
 jobs_of_rule (Pair v w holes) = []
 jobs_of_rule (After v w gap) = []
-jobs_of_rule (Tugs fleet jobs) = jobs
+jobs_of_rule (Tugs fleet later jobs) = jobs
 
 -- the first of the rules on tugs, at most `count`
 abbrev pub first_fleets : ℕ → List Rule → List Rule

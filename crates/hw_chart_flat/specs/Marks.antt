@@ -32,7 +32,7 @@ holds_some slots table rule = list_any (λ job. nat_lt (slice_index table job.sh
 abbrev pub awaits_first : ℕ → List ℕ → Rule → Bool
 awaits_first slots table (Pair v w holes) = false
 awaits_first slots table (After v w gap) = nat_lt (slice_index table w) slots && nat_lt 0 gap
-awaits_first slots table (Tugs fleet jobs) = false
+awaits_first slots table (Tugs fleet later jobs) = false
 
 -- a fleet is held whole in some slot
 abbrev pub is_held_whole : ℕ → List ℕ → Rule → Bool

@@ -60,7 +60,7 @@ flat_row_begin f row = joined (flat_row_title f row ∷ stripe row.rank (row_top
 abbrev pub wait_bar : List ℕ → ℕ → Rule → List ℕ
 wait_bar table ship (Pair v w holes) = []
 wait_bar table ship (After v w gap) = if nat_eq w ship then bar (codes "be") (slice_index table v) (slice_index table v + gap) 0 else []
-wait_bar table ship (Tugs fleet jobs) = []
+wait_bar table ship (Tugs fleet later jobs) = []
 
 abbrev pub flat_wait_bars : List ℕ → ℕ → List Rule → List ℕ
 flat_wait_bars table ship [] = []

@@ -74,7 +74,7 @@ module _ {P : Tags → List ℕ → Tags → Type 0} (w : Writing P) where
   of_wait : {a : Tags} (table : List ℕ) (ship : ℕ) (rule : Rule) → P a (wait_bar table ship rule) a
   of_wait table ship (Pair v x holes) = w.none
   of_wait table ship (After v x gap) = if_so w (nat_eq x ship) (of_bar w (slice_index table v) (slice_index table v + gap) 0 (letters (codes "be") refl))
-  of_wait table ship (Tugs fleet jobs) = w.none
+  of_wait table ship (Tugs fleet later jobs) = w.none
 
   of_waits : {a : Tags} (table : List ℕ) (ship : ℕ) (rules : List Rule) → P a (flat_wait_bars table ship rules) a
   of_waits table ship [] = w.none

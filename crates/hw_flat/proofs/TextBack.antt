@@ -87,13 +87,13 @@ rule_words_back ships (After v w gap) few fits =
       | inr (inr above) ↦ or_right _ _ (lt-ltb w v above)
     ] in
     rw (ship_back ships v few fits.first_in, ship_back ships w few fits.second_in, reads_back 512 gap (omega arith) fits.short_gap, two) refl
-rule_words_back ships (Tugs fleet jobs) few fits =
+rule_words_back ships (Tugs fleet later jobs) few fits =
     rw (reads_back 1_000 fleet (omega arith) fits.small_fleet, some_items_back (job_form ships) job_text (JobFits ships) (λ job h. job_back ships job few h) 40 jobs fits.each_job fits.some_job fits.few_jobs, ascend_back 0 jobs (λ k d lt. omega arith) fits.ascends) refl
 
 some_words : (rule : Rule) → 1 ≤ length (rule_texts rule)
 some_words (Pair v w holes) = omega arith
 some_words (After v w gap) = omega arith
-some_words (Tugs fleet jobs) = omega arith
+some_words (Tugs fleet later jobs) = omega arith
 
 rule_back : (ships : ℕ) (rule : Rule) → ships ≤ 40 → RuleFits ships rule → rule_form ships (rule_text rule) ≡ Some rule
 rule_back ships rule few fits = ap (rule_words ships) (cut_words (rule_texts rule) (some_words rule) (rule_lacks 32 ships rule apart_space few fits)) ∙ rule_words_back ships rule few fits
@@ -208,7 +208,7 @@ rows_back stay slots number (suc ships) values rest full fits =
 no_end : (rule : Rule) → bytes_eq (rule_text rule) (codes "end") ≡ false
 no_end (Pair v w holes) = refl
 no_end (After v w gap) = refl
-no_end (Tugs fleet jobs) = refl
+no_end (Tugs fleet later jobs) = refl
 
 pub rules_back : (ships number room : ℕ) (rules : List Rule) (rest : Parts) → Full rest → ships ≤ 40 → All (RuleFits ships) rules → length rules ≤ room → rules_at ships number room (map rule_text rules ++ codes "end" ∷ rest) ≡ Ok (rules, rest)
 unfolding rules_at

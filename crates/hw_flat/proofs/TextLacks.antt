@@ -98,7 +98,7 @@ rule_lacks c ships (After v w gap) a few fits =
     and_from _ _ (head_lacks c 115 [] a.after refl)
     (and_from _ _ (number_lacks c v a.digit (omega (arith, fits.first_in, few)))
     (and_from _ _ (number_lacks c w a.digit (omega (arith, fits.second_in, few))) (and_from _ _ (number_lacks c gap a.digit (omega (arith, fits.short_gap))) refl)))
-rule_lacks c ships (Tugs fleet jobs) a few fits =
+rule_lacks c ships (Tugs fleet later jobs) a few fits =
     and_from _ _ (head_lacks c 117 [] a.tugs refl)
     (and_from _ _ (number_lacks c fleet a.digit (omega (arith, fits.small_fleet))) (texts_lack c job_text (JobFits ships) (λ job h. joined_lacks c 58 (decimal job.ship ∷ decimal job.tugs ∷ decimal job.hold ∷ []) a.colon (job_parts_lack c ships job a.digit few h)) jobs fits.each_job))
 

@@ -46,7 +46,7 @@ job_text job = join_with_byte 58 (decimal job.ship ∷ decimal job.tugs ∷ deci
 abbrev pub rule_texts : Rule → List (List ℕ)
 rule_texts (Pair v w holes) = codes "p" ∷ decimal v ∷ decimal w ∷ map hole_text holes
 rule_texts (After v w gap) = codes "s" ∷ decimal v ∷ decimal w ∷ decimal gap ∷ []
-rule_texts (Tugs fleet jobs) = codes "u" ∷ decimal fleet ∷ map job_text jobs
+rule_texts (Tugs fleet later jobs) = codes "u" ∷ decimal fleet ∷ map job_text jobs
 
 abbrev pub rule_text : Rule → List ℕ
 rule_text rule = spaced (rule_texts rule)

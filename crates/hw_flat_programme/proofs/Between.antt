@@ -27,7 +27,7 @@ hole_in_fits ships (Pair a b holes) v w fits = by (nat_eq a v && nat_eq b w) (na
     by false true = turned_of_fits (slice_get holes 0) (first_fits holes fits.each_hole)
     by false false = tt
 hole_in_fits ships (After a b gap) v w fits = tt
-hole_in_fits ships (Tugs fleet jobs) v w fits = tt
+hole_in_fits ships (Tugs fleet later jobs) v w fits = tt
 
 pub between_fits : (ships : ℕ) (rules : List Rule) (v w : ℕ) → All (RuleFits ships) rules → IfSome (hole_between rules v w) HoleFits
 between_fits ships [] v w fit = tt

@@ -48,7 +48,7 @@ clear_in f table (Pair a b holes) holds v w hole e v_in w_in = at (nat_eq a v &&
         turned_first (slice_index table w) (slice_index table v) (slice_get holes 0) hole (λ h is. first_missed _ holes h (other (eqb-true a w both.0) (eqb-true b v both.1)) is) e
     at false none false none' e = absurd (cc)
 clear_in f table (After a b gap) holds v w hole e v_in w_in = absurd (cc)
-clear_in f table (Tugs fleet jobs) holds v w hole e v_in w_in = absurd (cc)
+clear_in f table (Tugs fleet later jobs) holds v w hole e v_in w_in = absurd (cc)
 
 clear_between : (f : Problem) (table : List ℕ) (rules : List Rule) → ((place : ℕ) → IfSome (slice_get rules place) (λ rule. IsTrue (rule_holds f table rule))) → (v w : ℕ) (hole : Hole) → hole_between rules v w ≡ Some hole → slice_index table v < horizon f → slice_index table w < horizon f
     → misses (pos (slice_index table w) -ℤ pos (slice_index table v)) hole ≡ true

@@ -47,7 +47,7 @@ holes_few f v w (hole ∷ holes) short fit =
 rule_few : (f : Problem) (rule : Rule) → horizon f ≤ 512 → RuleFits f.ships rule → length (rule_rows f rule) ≤ 12280
 rule_few f (Pair v w holes) short fits = omega (arith, holes_few f v w holes short fits.each_hole, fits.few_holes)
 rule_few f (After v w gap) short fits = omega (arith, numbered_few f 1 (after_spans f v w gap) 0 f.slots, slots_le f, short)
-rule_few f (Tugs fleet jobs) short fits = omega (arith, numbered_few f fleet (job_spans jobs) 0 (horizon f), short)
+rule_few f (Tugs fleet later jobs) short fits = omega (arith, numbered_few f fleet (job_spans jobs) 0 (horizon f), short)
 
 rules_few : (f : Problem) (rules : List Rule) → horizon f ≤ 512 → All (RuleFits f.ships) rules → length (rules_rows f rules) ≤ 12280 * length rules
 rules_few f [] short fit = omega arith

@@ -160,13 +160,13 @@ jobs_total f p table slot (job ∷ jobs) seated fit lt =
     let rest = jobs_total f p table slot jobs seated (All-tail (JobFits f.ships) job jobs fit) lt in
     omega (arith, total-append p (span_terms f (job_span slot job)) (terms_of f (job_spans jobs slot)), here, rest, sum_by-cons (held_by table slot) job jobs)
 
-tugs_satisfied : (f : Problem) (p : Point) (table : List ℕ) (fleet : ℕ) (jobs : List Job) → Seated f p table → All (JobFits f.ships) jobs → rule_holds f table (Tugs fleet jobs) ≡ true → SatisfiesRows p (rule_rows f (Tugs fleet jobs))
+tugs_satisfied : (f : Problem) (p : Point) (table : List ℕ) (fleet : ℕ) (jobs : List Job) → Seated f p table → All (JobFits f.ships) jobs → rule_holds f table (Tugs fleet later jobs) ≡ true → SatisfiesRows p (rule_rows f (Tugs fleet later jobs))
 tugs_satisfied f p table fleet jobs seated fit holds =
     rows_hold f p fleet (job_spans jobs) 0 (horizon f)
     (λ slot le lt. let few : sum_by (held_by table slot) jobs ≤ fleet = leb-true _ _ (all_of_range (λ slot. nat_le (sum_by (held_by table slot) jobs) fleet) 0 (horizon f) holds slot le lt) in
     omega (arith, few, jobs_total f p table slot jobs seated fit (omega (arith, lt))))
 
-tugs_kept : (f : Problem) (p : Point) (table : List ℕ) (fleet : ℕ) (jobs : List Job) → Seated f p table → All (JobFits f.ships) jobs → SatisfiesRows p (rule_rows f (Tugs fleet jobs)) → rule_holds f table (Tugs fleet jobs) ≡ true
+tugs_kept : (f : Problem) (p : Point) (table : List ℕ) (fleet : ℕ) (jobs : List Job) → Seated f p table → All (JobFits f.ships) jobs → SatisfiesRows p (rule_rows f (Tugs fleet later jobs)) → rule_holds f table (Tugs fleet later jobs) ≡ true
 tugs_kept f p table fleet jobs seated fit satisfied =
     range_all (λ slot. nat_le (sum_by (held_by table slot) jobs) fleet) 0 (horizon f)
     (λ slot le lt. le-leb _ _ (omega (arith, rows_give f p fleet (job_spans jobs) 0 (horizon f) satisfied slot le lt, jobs_total f p table slot jobs seated fit (omega (arith, lt)))))
@@ -196,12 +196,12 @@ clears f x y c h = by (cases_lt x (horizon f)) (cases_lt y (horizon f))
 rule_satisfied : (f : Problem) (p : Point) (table : List ℕ) (rule : Rule) → Seated f p table → Clear f table → RuleFits f.ships rule → rule_holds f table rule ≡ true → SatisfiesRows p (rule_rows f rule)
 rule_satisfied f p table (Pair v w holes) seated clear fits holds = holes_satisfied f p table v w holes seated clear (omega (arith, fits.ascends, fits.ship_in)) fits.ship_in (λ x_in y_in. cleared f (slice_index table v) (slice_index table w) _ holds x_in y_in)
 rule_satisfied f p table (After v w gap) seated clear fits holds = after_satisfied f p table v w gap seated fits.first_in fits.second_in holds
-rule_satisfied f p table (Tugs fleet jobs) seated clear fits holds = tugs_satisfied f p table fleet jobs seated fits.each_job holds
+rule_satisfied f p table (Tugs fleet later jobs) seated clear fits holds = tugs_satisfied f p table fleet jobs seated fits.each_job holds
 
 rule_kept : (f : Problem) (p : Point) (table : List ℕ) (rule : Rule) → Seated f p table → RuleFits f.ships rule → SatisfiesRows p (rule_rows f rule) → rule_holds f table rule ≡ true
 rule_kept f p table (Pair v w holes) seated fits satisfied = clears f (slice_index table v) (slice_index table w) (list_all (misses (pos (slice_index table w) -ℤ pos (slice_index table v))) holes) (λ x_in y_in. holes_kept f p table v w holes seated (omega (arith, fits.ascends, fits.ship_in)) fits.ship_in fits.each_hole x_in y_in satisfied)
 rule_kept f p table (After v w gap) seated fits satisfied = after_kept f p table v w gap seated fits.first_in fits.second_in satisfied
-rule_kept f p table (Tugs fleet jobs) seated fits satisfied = tugs_kept f p table fleet jobs seated fits.each_job satisfied
+rule_kept f p table (Tugs fleet later jobs) seated fits satisfied = tugs_kept f p table fleet jobs seated fits.each_job satisfied
 
 pub rules_satisfied : (f : Problem) (p : Point) (table : List ℕ) (rules : List Rule) → Seated f p table → Clear f table → All (RuleFits f.ships) rules → ((place : ℕ) → IfSome (slice_get rules place) (λ rule. IsTrue (rule_holds f table rule))) → SatisfiesRows p (rules_rows f rules)
 rules_satisfied f p table [] seated clear fit keeps = tt

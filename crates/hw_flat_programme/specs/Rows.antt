@@ -128,7 +128,7 @@ turned_of (Some hole) = Some (mirrored_hole hole)
 abbrev pub hole_in : Rule → ℕ → ℕ → Option Hole
 hole_in (Pair a b holes) v w = if nat_eq a v && nat_eq b w then slice_get holes 0 else if nat_eq a w && nat_eq b v then turned_of (slice_get holes 0) else None
 hole_in (After a b gap) v w = None
-hole_in (Tugs fleet jobs) v w = None
+hole_in (Tugs fleet later jobs) v w = None
 
 abbrev pub or_else : Option Hole → Option Hole → Option Hole
 or_else None other = other
@@ -220,7 +220,7 @@ tug_rows f fleet jobs = numbered_rows f fleet (job_spans jobs) 0 (horizon f)
 abbrev pub rule_rows : Problem → Rule → List Row
 rule_rows f (Pair v w holes) = hole_rows f v w holes
 rule_rows f (After v w gap) = after_rows f v w gap
-rule_rows f (Tugs fleet jobs) = tug_rows f fleet jobs
+rule_rows f (Tugs fleet later jobs) = tug_rows f fleet jobs
 
 abbrev pub rules_rows : Problem → List Rule → List Row
 rules_rows f [] = []

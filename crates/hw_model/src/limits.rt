@@ -18,11 +18,14 @@ pub const MOST_HOLES: usize = 8;
 /// How far from 0 a hole's bounds are.
 pub const MOST_DIFFERENCE: u32 = 1_023;
 
-/// Tugs of a rule's fleet.
-pub const MOST_FLEET: u32 = 1_000;
-
 /// Tugs of a job.
 pub const MOST_TUGS: u32 = 64;
+
+/// Tugs of a rule's fleet in a slot: with as many no job ever lacks one.
+pub const MOST_FLEET: u32 = MOST_SHIPS * MOST_TUGS;
+
+/// Tugs of a rule's fleet in a text of the first two versions, whose fleets have no hours.
+pub const MOST_PLAIN_FLEET: u32 = 1_000;
 
 /// Slots for which a job holds its tugs.
 pub const MOST_HOLD: u32 = 1_024;

@@ -9,6 +9,7 @@ use Rattle.hw_model.specs.declared.rule.Rule.{Rule}
 use Rattle.hw_model.specs.declared.rule.Rule.TheVariants.{Pair, After, Tugs}
 use Rattle.hw_model.specs.declared.source.Source.{Source}
 use Rattle.hw_model.specs.declared.source.Source.TheVariants as sources
+use Rattle.hw_model.specs.Rules.{fleet_in}
 use Rattle.hw_model.specs.Problem.{Problem}
 use Rattle.hw_model.specs.Limits.{IsFlat, RuleFits}
 use Rattle.hw_model.specs.Rooms.{RoomModel, InRange, agrees, order_of, low_of, high_of}
@@ -76,8 +77,8 @@ rule_alike f a b (Some (After v w gap)) fits lows highs orders h =
 
     most' : (v w : ℕ) → w ≤ v → v ≡ max v w
     most' v w le = omega (arith, le)
-rule_alike f a b (Some (Tugs fleet jobs)) fits lows highs orders h =
-    let more : fleet < sum_by (forced_by a h.0) jobs = h.2 in
+rule_alike f a b (Some (Tugs fleet later jobs)) fits lows highs orders h =
+    let more : fleet_in fleet later h.0 < sum_by (forced_by a h.0) jobs = h.2 in
     (h.0, h.1, omega (arith, more, sum_le (forced_by a h.0) (forced_by b h.0) jobs (forced_alike a b h.0 jobs lows highs)))
 
 -- ---- the goal

@@ -9,7 +9,7 @@ use Rattle.hw_model.specs.declared.rule.Job.{Job}
 use Rattle.hw_model.specs.declared.rule.Rule.{Rule}
 use Rattle.hw_model.specs.declared.rule.Rule.TheVariants.{Pair, After, Tugs}
 use Rattle.hw_model.specs.Problem.{Problem, IsTimetable, horizon, value_at}
-use Rattle.hw_model.specs.Rules.{pair_holds, rule_holds, held_by}
+use Rattle.hw_model.specs.Rules.{pair_holds, rule_holds, held_by, fleet_in}
 use Rattle.hw_model.specs.Timetables.{Permits, cargo, beats}
 use Rattle.hw_model.specs.Rooms.{RoomModel, RoomFits, InRange, IsPoint, point_of, low_of, high_of}
 use Rattle.hw_model.specs.Refuting.{RuleRefutes, NothingRefutes, forced_by, greatest_value, greatest_sum}
@@ -75,9 +75,9 @@ held_le room slot jobs full point = sum_le (held_by (point_of room) slot) (force
 rule_kept : (f : Problem) (room : RoomModel) (rule : Rule) → length room.ranges ≡ room.ships → IsPoint room → (RuleRefutes f room rule → ⊥) → IsTrue (rule_holds f (point_of room) rule)
 rule_kept f room (Pair v w holes) full point never = true_from_ne_false _ (λ e. never (λ x y h k agrees. two_slots f room (Pair v w holes) v w x y full point e h k))
 rule_kept f room (After v w gap) full point never = true_from_ne_false _ (λ e. never (λ x y h k agrees. two_slots f room (After v w gap) v w x y full point e h k))
-rule_kept f room (Tugs fleet jobs) full point never = true_from_ne_false _ (λ e.
-    let r = not_all_of_range (λ slot. nat_le (sum_by (held_by (point_of room) slot) jobs) fleet) 0 (horizon f) e in
-    let over : fleet < sum_by (held_by (point_of room) r.0) jobs = leb-false _ _ r.3 in
+rule_kept f room (Tugs fleet later jobs) full point never = true_from_ne_false _ (λ e.
+    let r = not_all_of_range (λ slot. nat_le (sum_by (held_by (point_of room) slot) jobs) (fleet_in fleet later slot)) 0 (horizon f) e in
+    let over : fleet_in fleet later r.0 < sum_by (held_by (point_of room) r.0) jobs = leb-false _ _ r.3 in
     never (r.0, omega (arith, r.2), omega (arith, over, held_le room r.0 jobs full point)))
 
 kept_at : (f : Problem) (room : RoomModel) (o : Option Rule) → length room.ranges ≡ room.ships → IsPoint room → (IsSomeAnd o (RuleRefutes f room) → ⊥) → IfSome o (λ rule. IsTrue (rule_holds f (point_of room) rule))

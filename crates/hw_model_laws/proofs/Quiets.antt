@@ -100,7 +100,7 @@ rule_order_in : (ships : ℕ) (o : Option Rule) (x y : ℕ) → IfSome o (RuleFi
 rule_order_in ships None x y fits e = absurd cc
 rule_order_in ships (Some (Pair v w holes)) x y fits e = omega (arith, (two_same x y v w e).1, fits.ship_in)
 rule_order_in ships (Some (After v w gap)) x y fits e = omega (arith, (two_same x y (min v w) (max v w) e).1, least_in v w ships fits.first_in fits.second_in)
-rule_order_in ships (Some (Tugs fleet jobs)) x y fits e = absurd cc
+rule_order_in ships (Some (Tugs fleet later jobs)) x y fits e = absurd cc
 
 -- a pair of whose order a source speaks is one of the problem
 pub order_in : (f : Problem) (source : Source) (x y : ℕ) → IsFlat f → IsSourceOf f source → IsTrue (names_order f source x y) → y < f.ships

@@ -13,7 +13,7 @@ use Rattle.hw_model.specs.declared.source.Source.{Source}
 use Rattle.hw_model.specs.declared.source.Source.TheVariants as sources
 use Rattle.hw_model.specs.Problem.{Problem, horizon}
 use Rattle.hw_model.specs.Limits.{RuleFits}
-use Rattle.hw_model.specs.Rules.{pair_holds, rule_holds, held_by}
+use Rattle.hw_model.specs.Rules.{pair_holds, rule_holds, held_by, fleet_in}
 use Rattle.hw_model.specs.Timetables.{Permits, cargo}
 use Rattle.hw_model.specs.Rooms.{RoomModel, Inside, InRange, agrees, low_of, high_of}
 use Rattle.hw_model.specs.Refuting.{Refutes, RuleRefutes, NoneMeets, IsSourceOf, fits_order, forced_by, greatest_value, greatest_sum}
@@ -63,11 +63,11 @@ rule_sound f room table (Pair v w holes) ships full h fits none holds = two_ship
     less : (v w : ℕ) → v < w → v ≡ w → ⊥
     less v w lt e = omega (arith, lt, e)
 rule_sound f room table (After v w gap) ships full h fits none holds = two_ships f room table (After v w gap) v w h (omega (arith, ships, fits.first_in)) (omega (arith, ships, fits.second_in)) fits.two_ships none holds
-rule_sound f room table (Tugs fleet jobs) ships full h fits over holds =
-    let kept : nat_le (sum_by (held_by table over.0) jobs) fleet ≡ true = all_of_range (λ slot. nat_le (sum_by (held_by table slot) jobs) fleet) 0 (horizon f) holds over.0 (omega arith) (omega (arith, over.1)) in
-    let le : sum_by (held_by table over.0) jobs ≤ fleet = leb-true _ _ kept in
+rule_sound f room table (Tugs fleet later jobs) ships full h fits over holds =
+    let kept : nat_le (sum_by (held_by table over.0) jobs) (fleet_in fleet later over.0) ≡ true = all_of_range (λ slot. nat_le (sum_by (held_by table slot) jobs) (fleet_in fleet later slot)) 0 (horizon f) holds over.0 (omega arith) (omega (arith, over.1)) in
+    let le : sum_by (held_by table over.0) jobs ≤ fleet_in fleet later over.0 = leb-true _ _ kept in
     let forced : sum_by (forced_by room over.0) jobs ≤ sum_by (held_by table over.0) jobs = forced_le room table over.0 jobs full h in
-    let more : fleet < sum_by (forced_by room over.0) jobs = over.2 in
+    let more : fleet_in fleet later over.0 < sum_by (forced_by room over.0) jobs = over.2 in
     omega (arith, le, forced, more)
 
 rule_at : (f : Problem) (room : RoomModel) (table : List ℕ) (o : Option Rule) → room.ships ≡ f.ships → length room.ranges ≡ room.ships → Inside table room → IfSome o (RuleFits f.ships) → IsSomeAnd o (RuleRefutes f room) → IfSome o (λ rule. IsTrue (rule_holds f table rule)) → ⊥

@@ -9,7 +9,7 @@ use Rattle.hw_model.specs.declared.rule.Rule.TheVariants.{Pair, After, Tugs}
 use Rattle.hw_model.specs.declared.source.Source.{Source}
 use Rattle.hw_model.specs.declared.source.Source.TheVariants as sources
 use Rattle.hw_model.specs.Problem.{Problem, horizon, value_at}
-use Rattle.hw_model.specs.Rules.{pair_holds}
+use Rattle.hw_model.specs.Rules.{pair_holds, fleet_in}
 use Rattle.hw_model.specs.Rooms.{RoomModel, InRange, low_of, high_of}
 use Rattle.hw_model.specs.Refuting.{Refutes, RuleRefutes, NoneMeets, fits_order, forced_by}
 use Rattle.hw_model.specs.RefutingComputed.{refutes, refutes_at, rule_refutes, none_meets, slots_of, orders_clash, is_first, is_not_first, at_most_best}
@@ -51,14 +51,14 @@ from_meets f room rule v w h = range_all _ (low_of room v) (high_of room v + 1 -
 rule_from : (f : Problem) (room : RoomModel) (rule : Rule) → rule_refutes f room rule ≡ true → RuleRefutes f room rule
 rule_from f room (Pair v w holes) e = meets_from f room (Pair v w holes) v w e
 rule_from f room (After v w gap) e = meets_from f room (After v w gap) v w e
-rule_from f room (Tugs fleet jobs) e =
-    let r = any_of_range (λ slot. nat_lt fleet (sum_by (forced_by room slot) jobs)) 0 (horizon f) e in
+rule_from f room (Tugs fleet later jobs) e =
+    let r = any_of_range (λ slot. nat_lt (fleet_in fleet later slot) (sum_by (forced_by room slot) jobs)) 0 (horizon f) e in
     (r.0, omega (arith, r.2), ltb-true _ _ r.3)
 
 from_rule : (f : Problem) (room : RoomModel) (rule : Rule) → RuleRefutes f room rule → rule_refutes f room rule ≡ true
 from_rule f room (Pair v w holes) h = from_meets f room (Pair v w holes) v w h
 from_rule f room (After v w gap) h = from_meets f room (After v w gap) v w h
-from_rule f room (Tugs fleet jobs) h = range_any (λ slot. nat_lt fleet (sum_by (forced_by room slot) jobs)) 0 (horizon f) h.0 (omega arith) (omega (arith, h.1)) (lt-ltb _ _ h.2)
+from_rule f room (Tugs fleet later jobs) h = range_any (λ slot. nat_lt (fleet_in fleet later slot) (sum_by (forced_by room slot) jobs)) 0 (horizon f) h.0 (omega arith) (omega (arith, h.1)) (lt-ltb _ _ h.2)
 
 at_from : (f : Problem) (room : RoomModel) (o : Option Rule) → refutes_at f room o ≡ true → IsSomeAnd o (RuleRefutes f room)
 at_from f room None e = absurd cc

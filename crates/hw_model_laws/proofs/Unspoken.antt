@@ -8,6 +8,7 @@ use Rattle.hw_model.specs.declared.rule.Rule.{Rule}
 use Rattle.hw_model.specs.declared.rule.Rule.TheVariants.{Pair, After, Tugs}
 use Rattle.hw_model.specs.declared.source.Source.{Source}
 use Rattle.hw_model.specs.declared.source.Source.TheVariants as sources
+use Rattle.hw_model.specs.Rules.{fleet_in}
 use Rattle.hw_model.specs.Problem.{Problem}
 use Rattle.hw_model.specs.Rooms.{RoomModel, low_of, high_of}
 use Rattle.hw_model.specs.Narrowing.{with_range}
@@ -45,8 +46,8 @@ rule_other f room (Some (Pair v w holes)) ship low high e h =
 rule_other f room (Some (After v w gap)) ship low high e h =
     let p = or_parts (nat_eq ship v) (nat_eq ship w) e in
     none_other f room (After v w gap) v w ship low high (other ship v p.0) (other ship w p.1) h
-rule_other f room (Some (Tugs fleet jobs)) ship low high e h =
-    let more : fleet < sum_by (forced_by (with_range room ship low high) h.0) jobs = h.2 in
+rule_other f room (Some (Tugs fleet later jobs)) ship low high e h =
+    let more : fleet_in fleet later h.0 < sum_by (forced_by (with_range room ship low high) h.0) jobs = h.2 in
     (h.0, h.1, omega (arith, more, sum_le (forced_by (with_range room ship low high) h.0) (forced_by room h.0) jobs (same_forced room ship low high h.0 jobs e)))
 
 pub unspoken : (f : Problem) (source : Source) (best : Option ℕ) (room : RoomModel) (ship low high : ℕ) → ship < f.ships → names_ship f source ship ≡ false → Refutes f source best (with_range room ship low high) → Refutes f source best room

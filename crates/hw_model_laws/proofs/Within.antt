@@ -11,6 +11,7 @@ use Rattle.hw_model.specs.declared.rule.Rule.{Rule}
 use Rattle.hw_model.specs.declared.rule.Rule.TheVariants.{Pair, After, Tugs}
 use Rattle.hw_model.specs.declared.source.Source.{Source}
 use Rattle.hw_model.specs.declared.source.Source.TheVariants as sources
+use Rattle.hw_model.specs.Rules.{fleet_in}
 use Rattle.hw_model.specs.Problem.{Problem}
 use Rattle.hw_model.specs.Limits.{RuleFits}
 use Rattle.hw_model.specs.Rooms.{RoomModel, RoomFits, RoomWithin, Inside, InRange, agrees, order_of, low_of, high_of}
@@ -82,8 +83,8 @@ rule_inner f inner outer (Pair v w holes) ships full full' fits h none = none_in
     less : (v w : ℕ) → v < w → v ≡ w → ⊥
     less v w lt e = omega (arith, lt, e)
 rule_inner f inner outer (After v w gap) ships full full' fits h none = none_inner f inner outer (After v w gap) v w h (omega (arith, ships, fits.first_in)) (omega (arith, ships, fits.second_in)) fits.two_ships none
-rule_inner f inner outer (Tugs fleet jobs) ships full full' fits h over =
-    let more : fleet < sum_by (forced_by outer over.0) jobs = over.2 in
+rule_inner f inner outer (Tugs fleet later jobs) ships full full' fits h over =
+    let more : fleet_in fleet later over.0 < sum_by (forced_by outer over.0) jobs = over.2 in
     (over.0, over.1, omega (arith, more, forced_inner inner outer over.0 jobs full full' h))
 
 rule_at : (f : Problem) (inner outer : RoomModel) (o : Option Rule) → outer.ships ≡ f.ships → length inner.ranges ≡ outer.ships → length outer.ranges ≡ outer.ships → IfSome o (RuleFits f.ships) → RoomWithin inner outer → IsSomeAnd o (RuleRefutes f outer) → IsSomeAnd o (RuleRefutes f inner)

@@ -14,5 +14,5 @@ rules_alike f g table (Pair v w holes) slots stay =
     ap (λ (h : ℕ). nat_le h (get_or table v 0) || nat_le h (get_or table w 0) || list_all (misses (pos (get_or table w 0) -ℤ pos (get_or table v 0))) holes) (same_horizon f g slots stay)
 rules_alike f g table (After v w gap) slots stay =
     ap (λ (h : ℕ). nat_le h (get_or table w 0) || (not (nat_le h (get_or table v 0)) && nat_le (get_or table v 0 + gap) (get_or table w 0))) (same_horizon f g slots stay)
-rules_alike f g table (Tugs fleet jobs) slots stay =
+rules_alike f g table (Tugs fleet later jobs) slots stay =
     ap (λ (h : ℕ). list_all (λ slot. nat_le (sum_by (held_by table slot) jobs) fleet) (range_with_len 0 h)) (same_horizon f g slots stay)

@@ -14,7 +14,7 @@ use Rattle.hw_plan_texts.specs.Fleets.{lessened_rule, lessened}
 pub rule_fits : (ships withdrawn : ℕ) (rule : Rule) → RuleFits ships rule → RuleFits ships (lessened_rule withdrawn rule)
 rule_fits ships withdrawn (Pair v w holes) fits = fits
 rule_fits ships withdrawn (After v w gap) fits = fits
-rule_fits ships withdrawn (Tugs fleet jobs) fits = record { small_fleet = omega (arith, fits.small_fleet); some_job = fits.some_job; few_jobs = fits.few_jobs; each_job = fits.each_job; ascends = fits.ascends }
+rule_fits ships withdrawn (Tugs fleet later jobs) fits = record { small_fleet = omega (arith, fits.small_fleet); some_job = fits.some_job; few_jobs = fits.few_jobs; each_job = fits.each_job; ascends = fits.ascends }
 
 pub lessened_fits : (f : Problem) (withdrawn : ℕ) → IsFlat f → IsFlat (lessened withdrawn f)
 lessened_fits f withdrawn flat = record {
@@ -34,7 +34,7 @@ lessened_fits f withdrawn flat = record {
 same_rule : (rule : Rule) → lessened_rule 0 rule ≡ rule
 same_rule (Pair v w holes) = refl
 same_rule (After v w gap) = refl
-same_rule (Tugs fleet jobs) = let e : fleet - 0 ≡ fleet = omega arith in ap (λ n. Tugs n jobs) e
+same_rule (Tugs fleet later jobs) = let e : fleet - 0 ≡ fleet = omega arith in ap (λ n. Tugs n jobs) e
 
 same_rules : (rules : List Rule) → map (lessened_rule 0) rules ≡ rules
 same_rules [] = refl

@@ -8,7 +8,7 @@ use Rattle.hw_model.specs.Problem.{Problem}
 abbrev pub lessened_rule : ℕ → Rule → Rule
 lessened_rule withdrawn (Pair v w holes) = Pair v w holes
 lessened_rule withdrawn (After v w gap) = After v w gap
-lessened_rule withdrawn (Tugs fleet jobs) = Tugs (fleet - withdrawn) jobs
+lessened_rule withdrawn (Tugs fleet later jobs) = Tugs (fleet - withdrawn) jobs
 
 -- the problem with this many tugs fewer in the fleet
 abbrev pub lessened : ℕ → Problem → Problem

@@ -55,7 +55,7 @@ sails_later p h table a listed holds =
 -- ---- tugs
 
 -- a rule by its jobs, of which there may be none
-each_of : (f : Problem) (table : List ℕ) (fleet : ℕ) (jobs : List Job) → rule_holds f table (rules.Tugs fleet jobs) ≡ true → Each (λ rule. rule_holds f table rule ≡ true) (tug_rule fleet jobs)
+each_of : (f : Problem) (table : List ℕ) (fleet : ℕ) (jobs : List Job) → rule_holds f table (rules.Tugs fleet later jobs) ≡ true → Each (λ rule. rule_holds f table rule ≡ true) (tug_rule fleet jobs)
 each_of f table fleet [] h = tt
 each_of f table fleet (job ∷ jobs) h = (h, tt)
 

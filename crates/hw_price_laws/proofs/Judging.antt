@@ -81,7 +81,7 @@ weighs_told : (weights : List ℕ) (most : ℕ) (o : Option Rule) → weighs_up_
 weighs_told weights most None e = absurd cc
 weighs_told weights most (Some (rules.Pair v w holes)) e = absurd cc
 weighs_told weights most (Some (rules.After v w gap)) e = absurd cc
-weighs_told weights most (Some (rules.Tugs fleet jobs)) e =
+weighs_told weights most (Some (rules.Tugs fleet later jobs)) e =
     let p = and_parts (length weights == length jobs) _ e in
     (eqb-true _ _ p.0, leb-true _ _ p.1)
 
@@ -89,7 +89,7 @@ told_weighs : (weights : List ℕ) (most : ℕ) (o : Option Rule) → IsSomeAnd 
 told_weighs weights most None h = absurd h
 told_weighs weights most (Some (rules.Pair v w holes)) h = absurd h
 told_weighs weights most (Some (rules.After v w gap)) h = absurd h
-told_weighs weights most (Some (rules.Tugs fleet jobs)) h = and_from _ _ (eq-eqb _ _ h.0) (le-leb _ _ h.1)
+told_weighs weights most (Some (rules.Tugs fleet later jobs)) h = and_from _ _ (eq-eqb _ _ h.0) (le-leb _ _ h.1)
 
 tugs_told : (f : Problem) (n slot : ℕ) (weights : List ℕ) (most : ℕ) → tugs_fit f n slot weights most ≡ true → TugsTollFits f n slot weights most
 tugs_told f n slot weights most e =

@@ -108,7 +108,7 @@ jobs_usage table slot (w ∷ ws) (j ∷ js) =
       jobs_usage table slot ws js,
     )
 
-pub tugs_usage : (f : Problem) (n slot most fleet : ℕ) (weights : List ℕ) (jobs : List Job) (table : List ℕ) → rule_at f n ≡ Some (rules.Tugs fleet jobs) → usage f (Tugs n slot weights most) table ≡ sum (held_weights table slot weights jobs)
+pub tugs_usage : (f : Problem) (n slot most fleet : ℕ) (weights : List ℕ) (jobs : List Job) (table : List ℕ) → rule_at f n ≡ Some (rules.Tugs fleet later jobs) → usage f (Tugs n slot weights most) table ≡ sum (held_weights table slot weights jobs)
 tugs_usage f n slot most fleet weights jobs table e =
     ap (λ o. sum_by (charged table) (rule_charges slot weights o)) e ∙ jobs_usage table slot weights jobs
 
@@ -155,7 +155,7 @@ rule_kept : (f : Problem) (table : List ℕ) (slot most : ℕ) (weights : List �
 rule_kept f table slot most weights None on lt holds = absurd on
 rule_kept f table slot most weights (Some (rules.Pair v w holes)) on lt holds = absurd on
 rule_kept f table slot most weights (Some (rules.After v w gap)) on lt holds = absurd on
-rule_kept f table slot most weights (Some (rules.Tugs fleet jobs)) on lt holds =
+rule_kept f table slot most weights (Some (rules.Tugs fleet later jobs)) on lt holds =
     let kept : nat_le (sum_by (held_by table slot) jobs) fleet ≡ true = all_of_range (λ slot. nat_le (sum_by (held_by table slot) jobs) fleet) 0 (horizon f) holds slot (omega arith) (omega (arith, lt)) in
     let le : sum_by (held_by table slot) jobs ≤ fleet = leb-true _ _ kept in
     omega (arith, held_weigh table slot fleet weights jobs le, on.1, jobs_usage table slot weights jobs)
@@ -195,11 +195,11 @@ small_teams ships team (j ∷ js) all =
     let here : JobFits ships j = All-head (JobFits ships) j js all in
     All-cons (λ weight. weight ≤ 64) (j.tugs / team) (map (λ job. job.tugs / team) js) (le_trans (div-le_self j.tugs team) here.few_tugs) (small_teams ships team js (All-tail (JobFits ships) j js all))
 
-pub teams : (f : Problem) (place slot team fleet : ℕ) (jobs : List Job) → IsFlat f → slot < horizon f → 1 ≤ team → slice_get f.rules place ≡ Some (rules.Tugs fleet jobs) → IsToll f (Tugs (f.ships + place) slot (map (λ job. job.tugs / team) jobs) (fleet / team))
+pub teams : (f : Problem) (place slot team fleet : ℕ) (jobs : List Job) → IsFlat f → slot < horizon f → 1 ≤ team → slice_get f.rules place ≡ Some (rules.Tugs fleet later jobs) → IsToll f (Tugs (f.ships + place) slot (map (λ job. job.tugs / team) jobs) (fleet / team))
 teams f place slot team fleet jobs flat lt some e =
-    let fits : RuleFits f.ships (rules.Tugs fleet jobs) = subst (λ o. IfSome o (RuleFits f.ships)) e (at_place (RuleFits f.ships) f.rules place flat.each_rule) in
+    let fits : RuleFits f.ships (rules.Tugs fleet later jobs) = subst (λ o. IfSome o (RuleFits f.ships)) e (at_place (RuleFits f.ships) f.rules place flat.each_rule) in
     let same : f.ships + place - f.ships ≡ place = omega arith in
-    let at : rule_at f (f.ships + place) ≡ Some (rules.Tugs fleet jobs) = ap (slice_get f.rules) same ∙ e in
+    let at : rule_at f (f.ships + place) ≡ Some (rules.Tugs fleet later jobs) = ap (slice_get f.rules) same ∙ e in
     record {
       past_ships = omega arith;
       weighed = subst (λ o. IsSomeAnd o (WeighsUpTo (map (λ job. job.tugs / team) jobs) (fleet / team))) (sym at) (length_teams team jobs, teams_weigh team fleet jobs some);

@@ -78,7 +78,7 @@ rule_of : (ships slot : ℕ) (weights : List ℕ) (o : Option Rule) → IfSome o
 rule_of ships slot weights None fits = All-nil (IsOf ships)
 rule_of ships slot weights (Some (rules.Pair v w holes)) fits = All-nil (IsOf ships)
 rule_of ships slot weights (Some (rules.After v w gap)) fits = All-nil (IsOf ships)
-rule_of ships slot weights (Some (rules.Tugs fleet jobs)) fits = jobs_of ships slot weights jobs fits.each_job
+rule_of ships slot weights (Some (rules.Tugs fleet later jobs)) fits = jobs_of ships slot weights jobs fits.each_job
 
 pub charges_of : (f : Problem) (toll : Toll) → IsFlat f → IsToll f toll → All (IsOf f.ships) (charges f toll)
 charges_of f (Narrows blocks) flat is = blocks_of f blocks is.each_block

@@ -34,7 +34,7 @@ abbrev pub weighs_up_to : List ℕ → ℕ → Option Rule → Bool
 weighs_up_to weights most None = false
 weighs_up_to weights most (Some (rules.Pair v w holes)) = false
 weighs_up_to weights most (Some (rules.After v w gap)) = false
-weighs_up_to weights most (Some (rules.Tugs fleet jobs)) = length weights == length jobs && nat_le (heaviest weights jobs fleet) most
+weighs_up_to weights most (Some (rules.Tugs fleet later jobs)) = length weights == length jobs && nat_le (heaviest weights jobs fleet) most
 
 -- the restriction is such a rule, the slot is one of the horizon, and the numbers are small
 abbrev pub tugs_fit : Problem → ℕ → ℕ → List ℕ → ℕ → Bool

@@ -36,12 +36,12 @@ TollJudged = (f : Problem) (toll : Toll) → (IsTrue (is_toll f toll) ↔ IsToll
 -- of narrows it takes the blocks that hold their ships' slots, of tugs the weights of the jobs that hold theirs
 pub record TollUsage : Type 0 where
   pub narrows : (f : Problem) (blocks : List Block) (table : List ℕ) → usage f (Narrows blocks) table ≡ count_by (λ b. lies_in b.low b.high (slice_index table b.ship)) blocks
-  pub tugs : (f : Problem) (n slot most fleet : ℕ) (weights : List ℕ) (jobs : List Job) (table : List ℕ) → rule_at f n ≡ Some (rules.Tugs fleet jobs)
+  pub tugs : (f : Problem) (n slot most fleet : ℕ) (weights : List ℕ) (jobs : List Job) (table : List ℕ) → rule_at f n ≡ Some (rules.Tugs fleet later jobs)
       → usage f (Tugs n slot weights most) table ≡ sum (held_weights table slot weights jobs)
 
 -- whole teams of this many tugs, counted for each job, are such weights, and so are the tugs themselves
 abbrev pub TeamsAreTolls : Type 0
-TeamsAreTolls = (f : Problem) (place slot team fleet : ℕ) (jobs : List Job) → IsFlat f → slot < horizon f → 1 ≤ team → slice_get f.rules place ≡ Some (rules.Tugs fleet jobs)
+TeamsAreTolls = (f : Problem) (place slot team fleet : ℕ) (jobs : List Job) → IsFlat f → slot < horizon f → 1 ≤ team → slice_get f.rules place ≡ Some (rules.Tugs fleet later jobs)
     → IsToll f (Tugs (f.ships + place) slot (map (λ job. job.tugs / team) jobs) (fleet / team))
 
 -- inside a refuted room a permitted timetable has at most the best cargo, and without a best there is none

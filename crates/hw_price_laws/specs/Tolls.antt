@@ -39,7 +39,7 @@ abbrev pub rule_charges : ℕ → List ℕ → Option Rule → List Charge
 rule_charges slot weights None = []
 rule_charges slot weights (Some (rules.Pair v w holes)) = []
 rule_charges slot weights (Some (rules.After v w gap)) = []
-rule_charges slot weights (Some (rules.Tugs fleet jobs)) = job_charges slot weights jobs
+rule_charges slot weights (Some (rules.Tugs fleet later jobs)) = job_charges slot weights jobs
 
 -- the rule with this number among the restrictions, which count the ships' windows first
 abbrev pub rule_at : Problem → ℕ → Option Rule
@@ -105,7 +105,7 @@ Weigh fleet jobs weights most = (length weights ≡ length jobs) × (heaviest we
 abbrev pub WeighsUpTo : List ℕ → ℕ → Rule → Type 0
 WeighsUpTo weights most (rules.Pair v w holes) = ⊥
 WeighsUpTo weights most (rules.After v w gap) = ⊥
-WeighsUpTo weights most (rules.Tugs fleet jobs) = Weigh fleet jobs weights most
+WeighsUpTo weights most (rules.Tugs fleet later jobs) = Weigh fleet jobs weights most
 
 -- the restriction is such a rule, the slot is one of the horizon, and the numbers are small
 pub record TugsTollFits (f : Problem) (n slot : ℕ) (weights : List ℕ) (most : ℕ) : Type 0 where

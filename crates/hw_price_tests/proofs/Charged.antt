@@ -115,7 +115,7 @@ rule_small : (ships slot ship k : ℕ) (weights : List ℕ) (o : Option Rule) �
 rule_small ships slot ship k weights None fits small = zero-le
 rule_small ships slot ship k weights (Some (rules.Pair v w holes)) fits small = zero-le
 rule_small ships slot ship k weights (Some (rules.After v w gap)) fits small = zero-le
-rule_small ships slot ship k weights (Some (rules.Tugs fleet jobs)) fits small =
+rule_small ships slot ship k weights (Some (rules.Tugs fleet later jobs)) fits small =
     omega (arith, all_small ship k (job_charges slot weights jobs) (jobs_small slot weights jobs small), few_jobs slot weights jobs fits.few_jobs)
 
 pub toll_small : (f : Problem) (toll : Toll) (ship k : ℕ) → IsFlat f → IsToll f toll → takes_at f (Some toll) ship k ≤ 2_560

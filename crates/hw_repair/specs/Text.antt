@@ -52,7 +52,7 @@ is_large f ship = list_any (λ slot. nat_lt MOST_VALUE (unwrap_or (value_at f sh
 
 -- a rule on tugs has this many
 abbrev pub rule_has_tugs : ℕ → Rule → Bool
-rule_has_tugs withdrawn (Tugs fleet jobs) = nat_le withdrawn fleet
+rule_has_tugs withdrawn (Tugs fleet later jobs) = nat_le withdrawn fleet
 rule_has_tugs withdrawn rule = true
 
 abbrev pub within_fleet : List Rule → ℕ → Option ℕ

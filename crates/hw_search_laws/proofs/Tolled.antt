@@ -154,7 +154,7 @@ few_weights : (ships : ℕ) (weights : List ℕ) (most : ℕ) (o : Option Rule) 
 few_weights ships weights most None fits h = absurd h
 few_weights ships weights most (Some (rules.Pair v w holes)) fits h = absurd h
 few_weights ships weights most (Some (rules.After v w gap)) fits h = absurd h
-few_weights ships weights most (Some (rules.Tugs fleet jobs)) fits h = omega (arith, h.0, fits.few_jobs)
+few_weights ships weights most (Some (rules.Tugs fleet later jobs)) fits h = omega (arith, h.0, fits.few_jobs)
 
 toll_fits : (f : Problem) (toll : Toll) → IsFlat f → IsToll f toll → LineFits f (lines.Toll toll)
 toll_fits f (tolls.Narrows blocks) flat is = record { some_block = is.some_block; few_blocks = is.few_blocks; each_block = is.each_block; ascend = ships_ascend f blocks is.apart }

@@ -13,7 +13,7 @@ abbrev pub IsMadeForRule : Option Rule → AnyPropagator → Type 0
 IsMadeForRule (Some (Pair v w holes)) (kinds.Separation one) = length holes ≡ 1
 IsMadeForRule (Some (Pair v w holes)) (kinds.Channel one) = length holes ≢ 1
 IsMadeForRule (Some (After v w gap)) (kinds.Berth one) = ⊤
-IsMadeForRule (Some (Tugs fleet jobs)) (kinds.TugProfile one) = ⊤
+IsMadeForRule (Some (Tugs fleet later jobs)) (kinds.TugProfile one) = ⊤
 IsMadeForRule rule one = ⊥
 
 abbrev pub IsMadeFor : Problem → Source → AnyPropagator → Type 0

@@ -21,17 +21,17 @@ use Rattle.hw_tugs.specs.Held.{held_for}
 use Rattle.hw_tugs.specs.Over.{OverAt, Exceeding}
 
 -- the ships of the jobs, and no pair, are what the source speaks of
-pub jobs_spoken : (f : Problem) (source : Source) (fleet : ℕ) (jobs : List Job) → IsFlat f → IsSourceOf f source → rule_of f source ≡ Some (Tugs fleet jobs) → SpokenOf f source (map (λ job. job.ship) jobs) []
-jobs_spoken f source fleet jobs flat of e = rule_spoken f source (Tugs fleet jobs) flat of e
+pub jobs_spoken : (f : Problem) (source : Source) (fleet : ℕ) (jobs : List Job) → IsFlat f → IsSourceOf f source → rule_of f source ≡ Some (Tugs fleet later jobs) → SpokenOf f source (map (λ job. job.ship) jobs) []
+jobs_spoken f source fleet jobs flat of e = rule_spoken f source (Tugs fleet later jobs) flat of e
 
 -- the source refutes exactly where the fleet is exceeded in a slot of the horizon
-pub to_refutes : (f : Problem) (source : Source) (best : Option ℕ) (fleet : ℕ) (jobs : List Job) (room : RoomModel) → rule_of f source ≡ Some (Tugs fleet jobs) → Exceeding fleet jobs (horizon f) room → Refutes f source best room
-to_refutes f source best fleet jobs room e over = (rule_refutes f source best room (Tugs fleet jobs) e).0 over
+pub to_refutes : (f : Problem) (source : Source) (best : Option ℕ) (fleet : ℕ) (jobs : List Job) (room : RoomModel) → rule_of f source ≡ Some (Tugs fleet later jobs) → Exceeding fleet jobs (horizon f) room → Refutes f source best room
+to_refutes f source best fleet jobs room e over = (rule_refutes f source best room (Tugs fleet later jobs) e).0 over
 
-pub from_refutes : (f : Problem) (source : Source) (best : Option ℕ) (fleet : ℕ) (jobs : List Job) (room : RoomModel) → rule_of f source ≡ Some (Tugs fleet jobs) → Refutes f source best room → Exceeding fleet jobs (horizon f) room
-from_refutes f source best fleet jobs room e h = (rule_refutes f source best room (Tugs fleet jobs) e).1 h
+pub from_refutes : (f : Problem) (source : Source) (best : Option ℕ) (fleet : ℕ) (jobs : List Job) (room : RoomModel) → rule_of f source ≡ Some (Tugs fleet later jobs) → Refutes f source best room → Exceeding fleet jobs (horizon f) room
+from_refutes f source best fleet jobs room e h = (rule_refutes f source best room (Tugs fleet later jobs) e).1 h
 
-pub quiet_source : (f : Problem) (source : Source) (best : Option ℕ) (fleet : ℕ) (jobs : List Job) (room : RoomModel) → RoomFits f room → rule_of f source ≡ Some (Tugs fleet jobs) → IsQuiet (Exceeding fleet jobs (horizon f)) room → QuietSource f source best room
+pub quiet_source : (f : Problem) (source : Source) (best : Option ℕ) (fleet : ℕ) (jobs : List Job) (room : RoomModel) → RoomFits f room → rule_of f source ≡ Some (Tugs fleet later jobs) → IsQuiet (Exceeding fleet jobs (horizon f)) room → QuietSource f source best room
 quiet_source f source best fleet jobs room fits e quiet = quiet_of f source best room fits.same_ships (λ c i h. quiet c i (from_refutes f source best fleet jobs _ e h))
 
 -- the ranges of the jobs' ships tell what is certainly held in a slot
@@ -51,7 +51,7 @@ pub slot_local : (fleet : ℕ) (jobs : List Job) (slot : ℕ) → IsLocal (OverA
 slot_local fleet jobs slot d e ranges orders over = omega (arith, over, same_sum jobs slot d e ranges)
 
 -- an explanation by one slot is one of the source
-pub slot_explains : (f : Problem) (source : Source) (best : Option ℕ) (fleet : ℕ) (jobs : List Job) (slot : ℕ) (ships : List ℕ) (room : RoomModel) (clause : List Lit) → IsFlat f → IsSourceOf f source → RoomFits f room → rule_of f source ≡ Some (Tugs fleet jobs) → slot < horizon f → SpokenOf f source ships []
+pub slot_explains : (f : Problem) (source : Source) (best : Option ℕ) (fleet : ℕ) (jobs : List Job) (slot : ℕ) (ships : List ℕ) (room : RoomModel) (clause : List Lit) → IsFlat f → IsSourceOf f source → RoomFits f room → rule_of f source ≡ Some (Tugs fleet later jobs) → slot < horizon f → SpokenOf f source ships []
     → IsExplanation (OverAt fleet jobs slot) (shape_of f) ships [] room clause → Explanation f source best room clause
 slot_explains f source best fleet jobs slot ships room clause flat of fits e lt spoken x =
     of_source f source best ships [] room clause flat of fits spoken (record {
@@ -62,7 +62,7 @@ slot_explains f source best fleet jobs slot ships room clause flat of fits e lt 
       loud = λ quiet. x.loud (λ c i over. quiet c i (to_refutes f source best fleet jobs _ e (slot, lt, over)));
     })
 
-pub spoken_by : (f : Problem) (source : Source) (fleet : ℕ) (jobs : List Job) (ships : List ℕ) → IsFlat f → IsSourceOf f source → rule_of f source ≡ Some (Tugs fleet jobs) → ships ≡ map (λ job. job.ship) jobs → SpokenOf f source ships []
+pub spoken_by : (f : Problem) (source : Source) (fleet : ℕ) (jobs : List Job) (ships : List ℕ) → IsFlat f → IsSourceOf f source → rule_of f source ≡ Some (Tugs fleet later jobs) → ships ≡ map (λ job. job.ship) jobs → SpokenOf f source ships []
 spoken_by f source fleet jobs ships flat of e same = subst (λ s. SpokenOf f source s []) (sym same) (jobs_spoken f source fleet jobs flat of e)
 
 pub slot_local_by : (fleet : ℕ) (jobs : List Job) (slot : ℕ) (ships : List ℕ) → ships ≡ map (λ job. job.ship) jobs → IsLocal (OverAt fleet jobs slot) ships []

@@ -14,7 +14,7 @@ abbrev pub IsTugs : Option Rule → Type 0
 IsTugs None = ⊥
 IsTugs (Some (Pair v w holes)) = ⊥
 IsTugs (Some (After v w gap)) = ⊥
-IsTugs (Some (Tugs fleet jobs)) = ⊤
+IsTugs (Some (Tugs fleet later jobs)) = ⊤
 
 -- the source of a rule on tugs
 abbrev pub OfTugs : Problem → Source → Type 0
@@ -25,7 +25,7 @@ abbrev pub jobs_in : Option Rule → List Job
 jobs_in None = []
 jobs_in (Some (Pair v w holes)) = []
 jobs_in (Some (After v w gap)) = []
-jobs_in (Some (Tugs fleet jobs)) = jobs
+jobs_in (Some (Tugs fleet later jobs)) = jobs
 
 -- the jobs of a source, none of one that is no rule on tugs
 abbrev pub jobs_of : Problem → Source → List Job
