@@ -1,5 +1,5 @@
 -- The best so far, after one more list of slots, and what a walk answers.
-use Rattle.std.proofs.Common.{◌≡◌, ◌↔◌, Result, Ok, Err, IfOk, IsSomeAnd, subst, ℕ, ◌+◌, ◌<◌, ◌≤◌, ◌⊎◌, Bool, true, false, List, Option, Some, None, MatchBool, IsTrue, refl, sym, ap, ◌∙◌, arith, inl, inr, zero, suc, replicate}
+use Rattle.std.proofs.Common.{◌≡◌, ◌↔◌, Result, Ok, Err, IfOk, subst, ℕ, ◌+◌, ◌<◌, ◌≤◌, ◌⊎◌, Bool, true, false, List, Option, Some, None, MatchBool, IsTrue, refl, sym, ap, ◌∙◌, arith, inl, inr, zero, suc, replicate}
 use Rattle.std.proofs.lemmas.Bool.{cases_lt, ltb-true, ltb-false}
 use Rattle.hw_lemmas.proofs.Truths.{same_some}
 use Rattle.hw_model.specs.Problem.{Problem, IsTimetable}

@@ -39,6 +39,12 @@ fn rule_refuted(flat: &Flat, rule: &Rule, room: &Room) -> bool
     match rule {
         Rule::Pair { v, w, holes } => pair_refuted(flat, *v, *w, &holes.items, room),
         Rule::After { v, w, gap } => precedence_refuted(flat, *v, *w, *gap, room),
-        Rule::Tugs { fleet, jobs } => tugs_refuted(flat, *fleet, &jobs.items, room),
+        Rule::Tugs { fleet, later, jobs } => tugs_refuted(
+            flat,
+            *fleet,
+            &later.items,
+            &jobs.items,
+            room,
+        ),
     }
 }

@@ -93,7 +93,13 @@ fn rule_holds(flat: &Flat, rule: &Rule, table: &[Slot]) -> bool
             table[*v as usize],
             table[*w as usize],
         ),
-        Rule::Tugs { fleet, jobs } => fleet_holds(flat, *fleet, &jobs.items, table),
+        Rule::Tugs { fleet, later, jobs } => fleet_holds(
+            flat,
+            *fleet,
+            &later.items,
+            &jobs.items,
+            table,
+        ),
     }
 }
 
@@ -118,6 +124,12 @@ fn first_overfull(flat: &Flat, rule: &Rule, table: &[Slot]) -> Option<Slot>
 {
     match rule {
         Rule::Pair { .. } | Rule::After { .. } => None,
-        Rule::Tugs { fleet, jobs } => overfull(flat, *fleet, &jobs.items, table),
+        Rule::Tugs { fleet, later, jobs } => overfull(
+            flat,
+            *fleet,
+            &later.items,
+            &jobs.items,
+            table,
+        ),
     }
 }

@@ -2,12 +2,12 @@
 ghost use Rattle.std.specs.Prelude.{◌≡◌, ◌≤◌, ◌<◌, length, All, nat_lt, nat_le, find, sum_by};
 ghost use Rattle.std.specs.List.{list_all, list_any, range_with_len};
 ghost use Rattle.hw_model.specs.Problem.{horizon};
-ghost use Rattle.hw_model.specs.Rules.{held_by, busy};
+ghost use Rattle.hw_model.specs.Rules.{held_by, busy, fleet_in};
 ghost use Rattle.hw_model.specs.Limits.{RuleFits, JobFits};
 ghost use Rattle.hw_model.specs.Refuting.{forced_by};
 
 use hw_flat::{Flat, Room, Timetable};
-use hw_model::{Job, MOST_HELD, MOST_SHIPS, Rule, Slot};
+use hw_model::{Job, MOST_HELD, MOST_SHIPS, Rule, Slot, Step, fleet_in};
 
 /// The tugs that a rule's jobs hold in a slot; none for a rule on two ships.
 ///
@@ -41,21 +41,35 @@ pub(crate) fn held(jobs: &[Job], table: &[Slot], slot: Slot) -> u64
 }
 
 /// The first slot of the horizon in which jobs hold more tugs than there are.
-pub(crate) fn overfull(flat: &Flat, fleet: u32, jobs: &[Job], table: &[Slot]) -> Option<Slot>
+pub(crate) fn overfull(
+    flat: &Flat,
+    fleet: u32,
+    later: &[Step],
+    jobs: &[Job],
+    table: &[Slot],
+) -> Option<Slot>
     requires few { length jobs.now ≤ MOST_SHIPS }
     requires fit { All (JobFits (length table.now)) jobs.now }
-    ensures value { result ≡ find (λ slot. nat_lt fleet (sum_by (held_by table.now slot) jobs.now)) (range_with_len 0 (horizon flat.now)) }
+    ensures value { result ≡ find (λ slot. nat_lt (fleet_in fleet later.now slot) (sum_by (held_by table.now slot) jobs.now)) (range_with_len 0 (horizon flat.now)) }
 {
-    (0..flat.horizon()).find(|slot| u64::from(fleet) < held(jobs, table, *slot))
+    (0..flat.horizon()).find(|slot| u64::from(fleet_in(fleet, later, *slot))
+        < held(jobs, table, *slot))
 }
 
 /// Whether the jobs hold no more tugs than there are in each slot of the horizon.
-pub(crate) fn fleet_holds(flat: &Flat, fleet: u32, jobs: &[Job], table: &[Slot]) -> bool
+pub(crate) fn fleet_holds(
+    flat: &Flat,
+    fleet: u32,
+    later: &[Step],
+    jobs: &[Job],
+    table: &[Slot],
+) -> bool
     requires few { length jobs.now ≤ MOST_SHIPS }
     requires fit { All (JobFits (length table.now)) jobs.now }
-    ensures value { result ≡ list_all (λ slot. nat_le (sum_by (held_by table.now slot) jobs.now) fleet) (range_with_len 0 (horizon flat.now)) }
+    ensures value { result ≡ list_all (λ slot. nat_le (sum_by (held_by table.now slot) jobs.now) (fleet_in fleet later.now slot)) (range_with_len 0 (horizon flat.now)) }
 {
-    (0..flat.horizon()).all(|slot| held(jobs, table, slot) <= u64::from(fleet))
+    (0..flat.horizon()).all(|slot| held(jobs, table, slot)
+        <= u64::from(fleet_in(fleet, later, slot)))
 }
 
 /// The tugs that the jobs hold in a slot wherever their ships sail in their ranges. It looks at
@@ -78,10 +92,17 @@ pub fn forced_tugs(jobs: &[Job], room: &Room, slot: Slot) -> u64
 
 /// Whether these tugs exceed the fleet in some slot of the horizon. It takes at most as many
 /// steps as the horizon has slots, times the jobs.
-pub(crate) fn tugs_refuted(flat: &Flat, fleet: u32, jobs: &[Job], room: &Room) -> bool
+pub(crate) fn tugs_refuted(
+    flat: &Flat,
+    fleet: u32,
+    later: &[Step],
+    jobs: &[Job],
+    room: &Room,
+) -> bool
     requires few { length jobs.now ≤ MOST_SHIPS }
     requires fit { All (JobFits room.now.ships) jobs.now }
-    ensures value { result ≡ list_any (λ slot. nat_lt fleet (sum_by (forced_by room.now slot) jobs.now)) (range_with_len 0 (horizon flat.now)) }
+    ensures value { result ≡ list_any (λ slot. nat_lt (fleet_in fleet later.now slot) (sum_by (forced_by room.now slot) jobs.now)) (range_with_len 0 (horizon flat.now)) }
 {
-    (0..flat.horizon()).any(|slot| u64::from(fleet) < forced_tugs(jobs, room, slot))
+    (0..flat.horizon()).any(|slot| u64::from(fleet_in(fleet, later, slot))
+        < forced_tugs(jobs, room, slot))
 }
