@@ -77,29 +77,29 @@ told_narrows f blocks h =
 
 -- ---- tugs
 
-weighs_told : (weights : List ℕ) (most : ℕ) (o : Option Rule) → weighs_up_to weights most o ≡ true → IsSomeAnd o (WeighsUpTo weights most)
-weighs_told weights most None e = absurd cc
-weighs_told weights most (Some (rules.Pair v w holes)) e = absurd cc
-weighs_told weights most (Some (rules.After v w gap)) e = absurd cc
-weighs_told weights most (Some (rules.Tugs fleet later jobs)) e =
+weighs_told : (slot : ℕ) (weights : List ℕ) (most : ℕ) (o : Option Rule) → weighs_up_to slot weights most o ≡ true → IsSomeAnd o (WeighsUpTo slot weights most)
+weighs_told slot weights most None e = absurd cc
+weighs_told slot weights most (Some (rules.Pair v w holes)) e = absurd cc
+weighs_told slot weights most (Some (rules.After v w gap)) e = absurd cc
+weighs_told slot weights most (Some (rules.Tugs fleet later jobs)) e =
     let p = and_parts (length weights == length jobs) _ e in
     (eqb-true _ _ p.0, leb-true _ _ p.1)
 
-told_weighs : (weights : List ℕ) (most : ℕ) (o : Option Rule) → IsSomeAnd o (WeighsUpTo weights most) → weighs_up_to weights most o ≡ true
-told_weighs weights most None h = absurd h
-told_weighs weights most (Some (rules.Pair v w holes)) h = absurd h
-told_weighs weights most (Some (rules.After v w gap)) h = absurd h
-told_weighs weights most (Some (rules.Tugs fleet later jobs)) h = and_from _ _ (eq-eqb _ _ h.0) (le-leb _ _ h.1)
+told_weighs : (slot : ℕ) (weights : List ℕ) (most : ℕ) (o : Option Rule) → IsSomeAnd o (WeighsUpTo slot weights most) → weighs_up_to slot weights most o ≡ true
+told_weighs slot weights most None h = absurd h
+told_weighs slot weights most (Some (rules.Pair v w holes)) h = absurd h
+told_weighs slot weights most (Some (rules.After v w gap)) h = absurd h
+told_weighs slot weights most (Some (rules.Tugs fleet later jobs)) h = and_from _ _ (eq-eqb _ _ h.0) (le-leb _ _ h.1)
 
 tugs_told : (f : Problem) (n slot : ℕ) (weights : List ℕ) (most : ℕ) → tugs_fit f n slot weights most ≡ true → TugsTollFits f n slot weights most
 tugs_told f n slot weights most e =
     let o = and_parts (nat_le f.ships n) _ e in
-    let p = and_parts (weighs_up_to weights most (rule_at f n)) _ o.1 in
+    let p = and_parts (weighs_up_to slot weights most (rule_at f n)) _ o.1 in
     let q = and_parts (nat_lt slot (horizon f)) _ p.1 in
     let r = and_parts (list_all (λ weight. nat_le weight 64) weights) _ q.1 in
     record {
       past_ships = leb-true _ _ o.0;
-      weighed = weighs_told weights most (rule_at f n) p.0;
+      weighed = weighs_told slot weights most (rule_at f n) p.0;
       slot_in = ltb-true _ _ q.0;
       small_weights = all_from (λ weight. nat_le weight 64) (λ weight. weight ≤ 64) weights (λ weight s. leb-true weight 64 s) r.0;
       small_most = leb-true _ _ r.1;
@@ -108,7 +108,7 @@ tugs_told f n slot weights most e =
 told_tugs : (f : Problem) (n slot : ℕ) (weights : List ℕ) (most : ℕ) → TugsTollFits f n slot weights most → tugs_fit f n slot weights most ≡ true
 told_tugs f n slot weights most h =
     and_from _ _ (le-leb _ _ h.past_ships)
-    (and_from _ _ (told_weighs weights most (rule_at f n) h.weighed)
+    (and_from _ _ (told_weighs slot weights most (rule_at f n) h.weighed)
     (and_from _ _ (lt-ltb _ _ h.slot_in)
     (and_from _ _ (from_all (λ weight. nat_le weight 64) (λ weight. weight ≤ 64) weights (λ weight s. le-leb weight 64 s) h.small_weights) (le-leb _ _ h.small_most))))
 

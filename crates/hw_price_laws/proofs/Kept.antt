@@ -10,10 +10,11 @@ use Rattle.hw_lemmas.proofs.Truths.{not_true}
 use Rattle.hw_model.specs.declared.rule.Job.{Job}
 use Rattle.hw_model.specs.declared.rule.Rule.{Rule}
 use Rattle.hw_model.specs.declared.rule.Rule.TheVariants as rules
+use Rattle.hw_model.specs.declared.rule.Step.{Step}
 use Rattle.hw_model.specs.declared.source.Source.TheVariants as sources
 use Rattle.hw_model.specs.Problem.{Problem, horizon, shape_of}
-use Rattle.hw_model.specs.Limits.{IsFlat, RuleFits, JobFits}
-use Rattle.hw_model.specs.Rules.{rule_holds, held_by}
+use Rattle.hw_model.specs.Limits.{IsFlat, RuleFits, JobFits, StepFits}
+use Rattle.hw_model.specs.Rules.{rule_holds, held_by, fleet_in}
 use Rattle.hw_model.specs.Timetables.{Permits}
 use Rattle.hw_model.specs.Rooms.{IsRoom, RoomFits, Inside, whole_room}
 use Rattle.hw_model.specs.Narrowing.{with_range}
@@ -108,8 +109,8 @@ jobs_usage table slot (w ∷ ws) (j ∷ js) =
       jobs_usage table slot ws js,
     )
 
-pub tugs_usage : (f : Problem) (n slot most fleet : ℕ) (weights : List ℕ) (jobs : List Job) (table : List ℕ) → rule_at f n ≡ Some (rules.Tugs fleet later jobs) → usage f (Tugs n slot weights most) table ≡ sum (held_weights table slot weights jobs)
-tugs_usage f n slot most fleet weights jobs table e =
+pub tugs_usage : (f : Problem) (n slot most fleet : ℕ) (later : List Step) (weights : List ℕ) (jobs : List Job) (table : List ℕ) → rule_at f n ≡ Some (rules.Tugs fleet later jobs) → usage f (Tugs n slot weights most) table ≡ sum (held_weights table slot weights jobs)
+tugs_usage f n slot most fleet later weights jobs table e =
     ap (λ o. sum_by (charged table) (rule_charges slot weights o)) e ∙ jobs_usage table slot weights jobs
 
 -- the heaviest choice is no lighter without its first job
@@ -151,14 +152,14 @@ held_weigh table slot tugs (w ∷ ws) (j ∷ js) le =
         let weight : cond (holds_in table slot j) w 0 ≡ 0 = if_false (holds_in table slot j) w e in
         omega (arith, weight, later (omega (arith, own, le, sum_by-cons (held_by table slot) j js)), without_first w tugs ws j js, sum_by-cons (λ (x : ℕ). x) (cond (holds_in table slot j) w 0) (held_weights table slot ws js))
 
-rule_kept : (f : Problem) (table : List ℕ) (slot most : ℕ) (weights : List ℕ) (o : Option Rule) → IsSomeAnd o (WeighsUpTo weights most) → slot < horizon f → IfSome o (λ rule. IsTrue (rule_holds f table rule)) → sum_by (charged table) (rule_charges slot weights o) ≤ most
+rule_kept : (f : Problem) (table : List ℕ) (slot most : ℕ) (weights : List ℕ) (o : Option Rule) → IsSomeAnd o (WeighsUpTo slot weights most) → slot < horizon f → IfSome o (λ rule. IsTrue (rule_holds f table rule)) → sum_by (charged table) (rule_charges slot weights o) ≤ most
 rule_kept f table slot most weights None on lt holds = absurd on
 rule_kept f table slot most weights (Some (rules.Pair v w holes)) on lt holds = absurd on
 rule_kept f table slot most weights (Some (rules.After v w gap)) on lt holds = absurd on
 rule_kept f table slot most weights (Some (rules.Tugs fleet later jobs)) on lt holds =
-    let kept : nat_le (sum_by (held_by table slot) jobs) fleet ≡ true = all_of_range (λ slot. nat_le (sum_by (held_by table slot) jobs) fleet) 0 (horizon f) holds slot (omega arith) (omega (arith, lt)) in
-    let le : sum_by (held_by table slot) jobs ≤ fleet = leb-true _ _ kept in
-    omega (arith, held_weigh table slot fleet weights jobs le, on.1, jobs_usage table slot weights jobs)
+    let kept : nat_le (sum_by (held_by table slot) jobs) (fleet_in fleet later slot) ≡ true = all_of_range (λ slot. nat_le (sum_by (held_by table slot) jobs) (fleet_in fleet later slot)) 0 (horizon f) holds slot (omega arith) (omega (arith, lt)) in
+    let le : sum_by (held_by table slot) jobs ≤ fleet_in fleet later slot = leb-true _ _ kept in
+    omega (arith, held_weigh table slot (fleet_in fleet later slot) weights jobs le, on.1, jobs_usage table slot weights jobs)
 
 pub kept : (f : Problem) (toll : Toll) (table : List ℕ) → IsFlat f → IsToll f toll → Permits f table → usage f toll table ≤ capacity toll
 kept f (Narrows blocks) table flat is permits =
@@ -195,15 +196,24 @@ small_teams ships team (j ∷ js) all =
     let here : JobFits ships j = All-head (JobFits ships) j js all in
     All-cons (λ weight. weight ≤ 64) (j.tugs / team) (map (λ job. job.tugs / team) js) (le_trans (div-le_self j.tugs team) here.few_tugs) (small_teams ships team js (All-tail (JobFits ships) j js all))
 
-pub teams : (f : Problem) (place slot team fleet : ℕ) (jobs : List Job) → IsFlat f → slot < horizon f → 1 ≤ team → slice_get f.rules place ≡ Some (rules.Tugs fleet later jobs) → IsToll f (Tugs (f.ships + place) slot (map (λ job. job.tugs / team) jobs) (fleet / team))
-teams f place slot team fleet jobs flat lt some e =
+-- a small fleet with small steps is small in each slot
+small_fleet_in : (later : List Step) (fleet slot : ℕ) → fleet ≤ 2560 → All StepFits later → fleet_in fleet later slot ≤ 2560
+small_fleet_in [] fleet slot small each = small
+small_fleet_in (step ∷ later) fleet slot small each = by (nat_le step.from slot) (small_fleet_in later step.fleet slot (All-head StepFits step later each).small_fleet (All-tail StepFits step later each))
+  where
+    by : (b : Bool) → fleet_in step.fleet later slot ≤ 2560 → cond b (fleet_in step.fleet later slot) fleet ≤ 2560
+    by true rest = rest
+    by false rest = small
+
+pub teams : (f : Problem) (place slot team fleet : ℕ) (later : List Step) (jobs : List Job) → IsFlat f → slot < horizon f → 1 ≤ team → slice_get f.rules place ≡ Some (rules.Tugs fleet later jobs) → IsToll f (Tugs (f.ships + place) slot (map (λ job. job.tugs / team) jobs) (fleet_in fleet later slot / team))
+teams f place slot team fleet later jobs flat lt some e =
     let fits : RuleFits f.ships (rules.Tugs fleet later jobs) = subst (λ o. IfSome o (RuleFits f.ships)) e (at_place (RuleFits f.ships) f.rules place flat.each_rule) in
     let same : f.ships + place - f.ships ≡ place = omega arith in
     let at : rule_at f (f.ships + place) ≡ Some (rules.Tugs fleet later jobs) = ap (slice_get f.rules) same ∙ e in
     record {
       past_ships = omega arith;
-      weighed = subst (λ o. IsSomeAnd o (WeighsUpTo (map (λ job. job.tugs / team) jobs) (fleet / team))) (sym at) (length_teams team jobs, teams_weigh team fleet jobs some);
+      weighed = subst (λ o. IsSomeAnd o (WeighsUpTo slot (map (λ job. job.tugs / team) jobs) (fleet_in fleet later slot / team))) (sym at) (length_teams team jobs, teams_weigh team (fleet_in fleet later slot) jobs some);
       slot_in = lt;
       small_weights = small_teams f.ships team jobs fits.each_job;
-      small_most = le_trans (div-le_self fleet team) (omega (arith, fits.small_fleet));
+      small_most = le_trans (div-le_self (fleet_in fleet later slot) team) (small_fleet_in later fleet slot fits.small_fleet fits.each_step);
     }

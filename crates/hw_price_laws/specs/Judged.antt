@@ -6,6 +6,7 @@ use Rattle.hw_model.specs.declared.rule.Rule.{Rule}
 use Rattle.hw_model.specs.declared.rule.Rule.TheVariants as rules
 use Rattle.hw_model.specs.declared.source.Source.TheVariants as sources
 use Rattle.hw_model.specs.Problem.{Problem, horizon}
+use Rattle.hw_model.specs.Rules.{fleet_in}
 use Rattle.hw_model.specs.RefutingComputed.{refutes}
 use Rattle.hw_price_laws.specs.declared.toll.Block.{Block}
 use Rattle.hw_price_laws.specs.declared.toll.Toll.{Toll}
@@ -29,16 +30,17 @@ all_apart f (block ∷ blocks) = list_all (are_apart f block) blocks && all_apar
 abbrev pub narrows_fit : Problem → List Block → Bool
 narrows_fit f blocks = (nat_le 1 (length blocks) && nat_le (length blocks) MOST_SHIPS) && (list_all (block_fits f) blocks && all_apart f blocks)
 
--- the rule is one on tugs with a weight for each job, and jobs that its fleet can serve together have at most this weight
-abbrev pub weighs_up_to : List ℕ → ℕ → Option Rule → Bool
-weighs_up_to weights most None = false
-weighs_up_to weights most (Some (rules.Pair v w holes)) = false
-weighs_up_to weights most (Some (rules.After v w gap)) = false
-weighs_up_to weights most (Some (rules.Tugs fleet later jobs)) = length weights == length jobs && nat_le (heaviest weights jobs fleet) most
+-- the rule is one on tugs with a weight for each job, and jobs that its fleet of the slot can serve together have at most this
+-- weight
+abbrev pub weighs_up_to : ℕ → List ℕ → ℕ → Option Rule → Bool
+weighs_up_to slot weights most None = false
+weighs_up_to slot weights most (Some (rules.Pair v w holes)) = false
+weighs_up_to slot weights most (Some (rules.After v w gap)) = false
+weighs_up_to slot weights most (Some (rules.Tugs fleet later jobs)) = length weights == length jobs && nat_le (heaviest weights jobs (fleet_in fleet later slot)) most
 
 -- the restriction is such a rule, the slot is one of the horizon, and the numbers are small
 abbrev pub tugs_fit : Problem → ℕ → ℕ → List ℕ → ℕ → Bool
-tugs_fit f n slot weights most = nat_le f.ships n && (weighs_up_to weights most (rule_at f n) && (nat_lt slot (horizon f) && (list_all (λ weight. nat_le weight MOST_TUGS) weights && nat_le most MOST_HELD)))
+tugs_fit f n slot weights most = nat_le f.ships n && (weighs_up_to slot weights most (rule_at f n) && (nat_lt slot (horizon f) && (list_all (λ weight. nat_le weight MOST_TUGS) weights && nat_le most MOST_HELD)))
 
 -- the toll is one of the problem
 abbrev pub is_toll : Problem → Toll → Bool

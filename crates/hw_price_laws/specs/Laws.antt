@@ -2,9 +2,11 @@
 use Rattle.std.specs.Prelude.{◌≡◌, ◌↔◌, ◌⊎◌, ℕ, ◌+◌, ◌*◌, ◌/◌, ◌<◌, ◌≤◌, nat_le, nat_lt, ◌&&◌, if◌then◌else◌, List, [], ◌∷◌, ◌++◌, Option, Some, length, map, sum, count_by, slice_get, slice_index, All, IsTrue, IsSomeAnd}
 use Rattle.hw_model.specs.declared.rule.Job.{Job}
 use Rattle.hw_model.specs.declared.rule.Rule.TheVariants as rules
+use Rattle.hw_model.specs.declared.rule.Step.{Step}
 use Rattle.hw_model.specs.declared.source.Source.TheVariants as sources
 use Rattle.hw_model.specs.Problem.{Problem, value_at, horizon}
 use Rattle.hw_model.specs.Limits.{IsFlat}
+use Rattle.hw_model.specs.Rules.{fleet_in}
 use Rattle.hw_model.specs.Timetables.{Permits, cargo, beats}
 use Rattle.hw_model.specs.Rooms.{RoomModel, RoomFits, Inside, InRange, low_of, high_of}
 use Rattle.hw_model.specs.Narrowing.{with_range}
@@ -36,13 +38,13 @@ TollJudged = (f : Problem) (toll : Toll) → (IsTrue (is_toll f toll) ↔ IsToll
 -- of narrows it takes the blocks that hold their ships' slots, of tugs the weights of the jobs that hold theirs
 pub record TollUsage : Type 0 where
   pub narrows : (f : Problem) (blocks : List Block) (table : List ℕ) → usage f (Narrows blocks) table ≡ count_by (λ b. lies_in b.low b.high (slice_index table b.ship)) blocks
-  pub tugs : (f : Problem) (n slot most fleet : ℕ) (weights : List ℕ) (jobs : List Job) (table : List ℕ) → rule_at f n ≡ Some (rules.Tugs fleet later jobs)
+  pub tugs : (f : Problem) (n slot most fleet : ℕ) (later : List Step) (weights : List ℕ) (jobs : List Job) (table : List ℕ) → rule_at f n ≡ Some (rules.Tugs fleet later jobs)
       → usage f (Tugs n slot weights most) table ≡ sum (held_weights table slot weights jobs)
 
--- whole teams of this many tugs, counted for each job, are such weights, and so are the tugs themselves
+-- whole teams of this many tugs, counted for each job, are such weights in a slot, and so are the tugs themselves
 abbrev pub TeamsAreTolls : Type 0
-TeamsAreTolls = (f : Problem) (place slot team fleet : ℕ) (jobs : List Job) → IsFlat f → slot < horizon f → 1 ≤ team → slice_get f.rules place ≡ Some (rules.Tugs fleet later jobs)
-    → IsToll f (Tugs (f.ships + place) slot (map (λ job. job.tugs / team) jobs) (fleet / team))
+TeamsAreTolls = (f : Problem) (place slot team fleet : ℕ) (later : List Step) (jobs : List Job) → IsFlat f → slot < horizon f → 1 ≤ team → slice_get f.rules place ≡ Some (rules.Tugs fleet later jobs)
+    → IsToll f (Tugs (f.ships + place) slot (map (λ job. job.tugs / team) jobs) (fleet_in fleet later slot / team))
 
 -- inside a refuted room a permitted timetable has at most the best cargo, and without a best there is none
 abbrev pub SoundPrices : Type 0

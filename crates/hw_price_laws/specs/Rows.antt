@@ -13,7 +13,11 @@ use Rattle.hw_price_laws.specs.Judged.{is_toll}
 
 -- two ships that sail two slots apart, in the first and the last slot, and that hold two tugs of three for two slots
 abbrev pub tolled_ships_apart : Problem
-tolled_ships_apart = record { ships = 2; slots = 3; stay = false; values = Some 10 ∷ Some 20 ∷ Some 30 ∷ Some 10 ∷ Some 20 ∷ None ∷ []; rules = rules.Pair 0 1 (record { lo = neg_ℤ (pos 1); hi = pos 1 } ∷ []) ∷ rules.Tugs 3 (record { ship = 0; tugs = 2; hold = 2 } ∷ record { ship = 1; tugs = 2; hold = 2 } ∷ []) ∷ [] }
+tolled_ships_apart = record { ships = 2; slots = 3; stay = false; values = Some 10 ∷ Some 20 ∷ Some 30 ∷ Some 10 ∷ Some 20 ∷ None ∷ []; rules = rules.Pair 0 1 (record { lo = neg_ℤ (pos 1); hi = pos 1 } ∷ []) ∷ rules.Tugs 3 [] (record { ship = 0; tugs = 2; hold = 2 } ∷ record { ship = 1; tugs = 2; hold = 2 } ∷ []) ∷ [] }
+
+-- two ships that hold one tug each for two slots, of a fleet of two tugs that has one from the second slot on
+abbrev pub fewer_tugs_later : Problem
+fewer_tugs_later = record { ships = 2; slots = 3; stay = false; values = Some 10 ∷ Some 20 ∷ Some 30 ∷ Some 10 ∷ Some 20 ∷ Some 30 ∷ []; rules = rules.Tugs 2 (record { from = 1; fleet = 1 } ∷ []) (record { ship = 0; tugs = 1; hold = 2 } ∷ record { ship = 1; tugs = 1; hold = 2 } ∷ []) ∷ [] }
 
 -- of the second and the third slot one ship at most has one
 abbrev pub late : Toll
@@ -59,7 +63,7 @@ pub record PriceRows : Type 0 where
   pub tolls_alone_without_a_best : prices_refute tolled_ships_apart (late ∷ []) tolls_alone None both_late ≡ true
   pub no_value_in_a_range : prices_refute tolled_ships_apart [] tariff_without_dues None without_value ≡ true
 
--- what is a toll of the problem and what isn't
+-- what is a toll of the problems and what isn't
 pub record TollRows : Type 0 where
   pub late_slots_are_apart : is_toll tolled_ships_apart late ≡ true
   pub first_and_last_slot_may_be_both : is_toll tolled_ships_apart (Narrows (record { ship = 0; low = 0; high = 2 } ∷ record { ship = 1; low = 1; high = 2 } ∷ [])) ≡ false
@@ -72,3 +76,8 @@ pub record TollRows : Type 0 where
   pub a_weight_too_few : is_toll tolled_ships_apart (Tugs 3 1 (1 ∷ []) 1) ≡ false
   pub no_window : is_toll tolled_ships_apart (Tugs 1 1 (1 ∷ 1 ∷ []) 1) ≡ false
   pub no_rule_on_tugs : is_toll tolled_ships_apart (Tugs 2 1 (1 ∷ 1 ∷ []) 1) ≡ false
+  pub both_jobs_before_the_step : is_toll fewer_tugs_later (Tugs 2 0 (1 ∷ 1 ∷ []) 2) ≡ true
+  pub not_one_before_the_step : is_toll fewer_tugs_later (Tugs 2 0 (1 ∷ 1 ∷ []) 1) ≡ false
+  pub one_job_from_the_step : is_toll fewer_tugs_later (Tugs 2 1 (1 ∷ 1 ∷ []) 1) ≡ true
+  pub one_job_behind_the_step : is_toll fewer_tugs_later (Tugs 2 2 (1 ∷ 1 ∷ []) 1) ≡ true
+  pub not_none_from_the_step : is_toll fewer_tugs_later (Tugs 2 1 (1 ∷ 1 ∷ []) 0) ≡ false

@@ -6,6 +6,7 @@ use Rattle.hw_model.specs.declared.rule.Rule.{Rule}
 use Rattle.hw_model.specs.declared.rule.Rule.TheVariants as rules
 use Rattle.hw_model.specs.declared.source.Source.TheVariants as sources
 use Rattle.hw_model.specs.Problem.{Problem, horizon, shape_of}
+use Rattle.hw_model.specs.Rules.{fleet_in}
 use Rattle.hw_model.specs.Rooms.{RoomModel, whole_room}
 use Rattle.hw_model.specs.Narrowing.{with_range}
 use Rattle.hw_model.specs.Refuting.{Refutes}
@@ -101,16 +102,17 @@ pub record NarrowsFit (f : Problem) (blocks : List Block) : Type 0 where
 abbrev pub Weigh : ℕ → List Job → List ℕ → ℕ → Type 0
 Weigh fleet jobs weights most = (length weights ≡ length jobs) × (heaviest weights jobs fleet ≤ most)
 
--- the rule is one on tugs with a weight for each job, and jobs that its fleet can serve together have at most this weight
-abbrev pub WeighsUpTo : List ℕ → ℕ → Rule → Type 0
-WeighsUpTo weights most (rules.Pair v w holes) = ⊥
-WeighsUpTo weights most (rules.After v w gap) = ⊥
-WeighsUpTo weights most (rules.Tugs fleet later jobs) = Weigh fleet jobs weights most
+-- the rule is one on tugs with a weight for each job, and jobs that its fleet of the slot can serve together have at most this
+-- weight
+abbrev pub WeighsUpTo : ℕ → List ℕ → ℕ → Rule → Type 0
+WeighsUpTo slot weights most (rules.Pair v w holes) = ⊥
+WeighsUpTo slot weights most (rules.After v w gap) = ⊥
+WeighsUpTo slot weights most (rules.Tugs fleet later jobs) = Weigh (fleet_in fleet later slot) jobs weights most
 
 -- the restriction is such a rule, the slot is one of the horizon, and the numbers are small
 pub record TugsTollFits (f : Problem) (n slot : ℕ) (weights : List ℕ) (most : ℕ) : Type 0 where
   pub past_ships : f.ships ≤ n
-  pub weighed : IsSomeAnd (rule_at f n) (WeighsUpTo weights most)
+  pub weighed : IsSomeAnd (rule_at f n) (WeighsUpTo slot weights most)
   pub slot_in : slot < horizon f
   pub small_weights : All (λ weight. weight ≤ MOST_TUGS) weights
   pub small_most : most ≤ MOST_HELD

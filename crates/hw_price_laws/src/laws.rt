@@ -19,8 +19,8 @@ pub fn toll_usage()
     ensures { TollUsage }
 {}
 
-/// The whole teams of this many tugs that the jobs hold are at most those of the fleet. With teams
-/// of one tug that is the rule itself.
+/// The whole teams of this many tugs that the jobs hold in a slot are at most those of the slot's
+/// fleet. With teams of one tug that is the rule itself.
 pub fn teams_are_tolls()
     ensures { TeamsAreTolls }
 {}
@@ -77,7 +77,7 @@ pub fn price_rows()
     ensures { PriceRows }
 {}
 
-/// Worked rows: what is a toll of the small problem and what isn't.
+/// Worked rows: what is a toll of small problems and what isn't.
 pub fn toll_rows()
     ensures { TollRows }
 {}

@@ -70,8 +70,8 @@ pub enum Toll {
         blocks: Blocks,
     },
     /// The jobs of a rule on tugs that hold their tugs in one slot weigh at most a given sum together,
-    /// since any jobs that the fleet can serve together do. The tugs themselves are such weights,
-    /// and so are whole teams of tugs.
+    /// since any jobs that the fleet of that slot can serve together do. The tugs themselves are such
+    /// weights, and so are whole teams of tugs.
     Tugs {
         /// The rule's number among the restrictions, which count from 0, the ships' windows first.
         restriction: u32,
