@@ -1,5 +1,6 @@
 //! The laws of a search and its lines, each a function without a body.
 
+ghost use Rattle.hw_search_laws.specs.Limits.{LimitsAre};
 ghost use Rattle.hw_search_laws.specs.Laws.{
   NewSearch,
   ReasonLine,
@@ -230,4 +231,9 @@ pub fn proving_meets()
 /// Where no prices are in force a turn writes nothing of tolls or prices.
 pub fn plain_turn()
     ensures { PlainTurn }
+{}
+
+/// Each limit of a problem, of tolls and prices, of a certificate and of a search is its number.
+pub fn limits_are()
+    ensures { LimitsAre }
 {}

@@ -12,9 +12,10 @@ mod outcome;
 pub use laws::{
     bound_line, branch_open, conflict_line, delete_line, end_means, few_new, few_numbers,
     few_restarts, few_stored, few_written, first_lubys, fit_kept, heeds_on, heeds_one, last_turn,
-    lemma_turn, live_bound, live_throughout, luby_rule, new_search, part_written, plain_turn,
-    point_table, priced_line, prices_true, proving_meets, reason_line, reason_rises, search_kept,
-    solved_sound, sources_once, stop_kept, table_line, tariff_line, toll_line, turn_live,
+    lemma_turn, limits_are, live_bound, live_throughout, luby_rule, new_search, part_written,
+    plain_turn, point_table, priced_line, prices_true, proving_meets, reason_line, reason_rises,
+    search_kept, solved_sound, sources_once, stop_kept, table_line, tariff_line, toll_line,
+    turn_live,
 };
 pub use limits::{MOST_BUDGET, MOST_PRICED};
 pub use outcome::{Bounded, Branching, Closed, Proposed, Proved, Settled, Solved, Turn};
