@@ -59,10 +59,10 @@ value_in_slot_0 = refl
 pub no_value_in_slot_1 : value (small false) tides 0 1 ≡ None
 no_value_in_slot_1 = refl
 
-pub flat_problem : flattened (small false) tides ≡ record { ships = 1; slots = 2; stay = false; values = Some 228_000 ∷ None ∷ []; rules = Tugs 4 (record { ship = 0; tugs = 2; hold = 3 } ∷ []) ∷ [] }
+pub flat_problem : flattened (small false) tides ≡ record { ships = 1; slots = 2; stay = false; values = Some 228_000 ∷ None ∷ []; rules = Tugs 4 [] (record { ship = 0; tugs = 2; hold = 3 } ∷ []) ∷ [] }
 flat_problem = refl
 
-pub flat_problem_with_staying : flattened (small true) tides ≡ record { ships = 1; slots = 3; stay = true; values = Some 228_000 ∷ None ∷ Some 0 ∷ []; rules = Tugs 4 (record { ship = 0; tugs = 2; hold = 3 } ∷ []) ∷ [] }
+pub flat_problem_with_staying : flattened (small true) tides ≡ record { ships = 1; slots = 3; stay = true; values = Some 228_000 ∷ None ∷ Some 0 ∷ []; rules = Tugs 4 [] (record { ship = 0; tugs = 2; hold = 3 } ∷ []) ∷ [] }
 flat_problem_with_staying = refl
 
 pub cargo_sailing : port_cargo (small true) tides (0 ∷ []) ≡ Some 228_000

@@ -80,10 +80,10 @@ abbrev pub jobs_from : Parts → ℕ → List ShipParts → List Job
 jobs_from p v [] = []
 jobs_from p v (s ∷ more) = job_of p v s ++ jobs_from p (v + 1) more
 
--- a rule on tugs, where a ship has some
+-- a rule on tugs, where a ship has some: the fleet has them in each slot
 abbrev pub tug_rule : ℕ → List Job → List Rule
 tug_rule fleet [] = []
-tug_rule fleet (job ∷ jobs) = Tugs fleet (job ∷ jobs) ∷ []
+tug_rule fleet (job ∷ jobs) = Tugs fleet [] (job ∷ jobs) ∷ []
 
 -- the rules: pairs of ships, berths, ships after others, tugs
 abbrev pub rules_of : Parts → List Rule
