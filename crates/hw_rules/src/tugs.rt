@@ -6,8 +6,9 @@ ghost use Rattle.hw_model.specs.Rules.{held_by, busy, fleet_in};
 ghost use Rattle.hw_model.specs.Limits.{RuleFits, JobFits};
 ghost use Rattle.hw_model.specs.Refuting.{forced_by};
 
+use crate::fleets::Fleet;
 use hw_flat::{Flat, Room, Timetable};
-use hw_model::{Job, MOST_HELD, MOST_SHIPS, Rule, Slot, Step, fleet_in};
+use hw_model::{Job, MOST_HELD, MOST_SHIPS, Rule, Slot, Step};
 
 /// The tugs that a rule's jobs hold in a slot; none for a rule on two ships.
 ///
@@ -52,8 +53,13 @@ pub(crate) fn overfull(
     requires fit { All (JobFits (length table.now)) jobs.now }
     ensures value { result ≡ find (λ slot. nat_lt (fleet_in fleet later.now slot) (sum_by (held_by table.now slot) jobs.now)) (range_with_len 0 (horizon flat.now)) }
 {
-    (0..flat.horizon()).find(|slot| u64::from(fleet_in(fleet, later, *slot))
-        < held(jobs, table, *slot))
+    let mut tugs = Fleet::new(fleet, later);
+    for slot in 0..flat.horizon() {
+        if u64::from(tugs.tugs_in(slot)) < held(jobs, table, slot) {
+            return Some(slot);
+        }
+    }
+    None
 }
 
 /// Whether the jobs hold no more tugs than there are in each slot of the horizon.
@@ -68,8 +74,7 @@ pub(crate) fn fleet_holds(
     requires fit { All (JobFits (length table.now)) jobs.now }
     ensures value { result ≡ list_all (λ slot. nat_le (sum_by (held_by table.now slot) jobs.now) (fleet_in fleet later.now slot)) (range_with_len 0 (horizon flat.now)) }
 {
-    (0..flat.horizon()).all(|slot| held(jobs, table, slot)
-        <= u64::from(fleet_in(fleet, later, slot)))
+    overfull(flat, fleet, later, jobs, table).is_none()
 }
 
 /// The tugs that the jobs hold in a slot wherever their ships sail in their ranges. It looks at
@@ -103,6 +108,11 @@ pub(crate) fn tugs_refuted(
     requires fit { All (JobFits room.now.ships) jobs.now }
     ensures value { result ≡ list_any (λ slot. nat_lt (fleet_in fleet later.now slot) (sum_by (forced_by room.now slot) jobs.now)) (range_with_len 0 (horizon flat.now)) }
 {
-    (0..flat.horizon()).any(|slot| u64::from(fleet_in(fleet, later, slot))
-        < forced_tugs(jobs, room, slot))
+    let mut tugs = Fleet::new(fleet, later);
+    for slot in 0..flat.horizon() {
+        if u64::from(tugs.tugs_in(slot)) < forced_tugs(jobs, room, slot) {
+            return true;
+        }
+    }
+    false
 }
