@@ -6,5 +6,6 @@ pub mod Layout
 pub mod Figures
 pub mod Rows
 pub mod Panels
+pub mod Hours
 pub mod Grids
 pub mod Hatches

@@ -1,7 +1,7 @@
 //! Figures made of others.
 
-ghost use Rattle.std.specs.Prelude.{◌≡◌, ◌-◌, ◌≤◌};
-ghost use Rattle.hw_chart.specs.Figures.{full_level, greatest_level, is_reached, is_top_touched};
+ghost use Rattle.std.specs.Prelude.{◌≡◌, ◌-◌, ◌<◌, ◌≤◌, min};
+ghost use Rattle.hw_chart.specs.Figures.{full_level, greatest_level, is_met, is_reached, is_top_touched, whole_level};
 
 use hw_chart_svg::Levels;
 
@@ -45,6 +45,29 @@ impl<L: Levels> Levels for Full<'_, L> {
     }
 }
 
+/// The slots in which an amount is all that there is in its slot: that amount, and otherwise the foot of the window.
+#[derive(Drop)]
+pub struct Whole<'l, A: Levels, L: Levels> {
+    pub all: &'l A,
+    pub amounts: &'l L,
+    pub tall: u64,
+}
+
+impl<A: Levels, L: Levels> Levels for Whole<'_, A, L> {
+    ghost level = { λ w slot. whole_level (A.level w.all.now slot) w.tall (L.level w.amounts.now slot) };
+
+    ghost end = { λ w. min (A.end w.all.now) (L.end w.amounts.now) };
+
+    fn level(&self, slot: u32) -> u64 {
+        let amount = self.amounts.level(slot);
+        if amount == self.all.level(slot) && amount > 0 {
+            self.tall.saturating_sub(amount)
+        } else {
+            self.tall
+        }
+    }
+}
+
 /// The greatest amount in the slots before an end, 0 where there is none.
 pub fn greatest<L: Levels>(amounts: &L, end: u32) -> u64
     requires { end ≤ L.end amounts.now }
@@ -74,4 +97,21 @@ pub fn reaches<L: Levels>(amounts: &L, all: u64, end: u32) -> bool
         let amount = amounts.level(slot);
         amount == all && amount > 0
     })
+}
+
+/// Whether an amount is all that there is in its slot, in one of the slots before an end.
+pub fn meets<A: Levels, L: Levels>(amounts: &L, all: &A, end: u32) -> bool
+    requires amounts { end ≤ L.end amounts.now }
+    requires all { end ≤ A.end all.now }
+    ensures { result ≡ is_met (L.level amounts.now) (A.level all.now) end }
+{
+    (0..end).any(
+        |slot|
+            requires amounts { slot < L.end amounts.now }
+            requires all { slot < A.end all.now }
+        {
+            let amount = amounts.level(slot);
+            amount == all.level(slot) && amount > 0
+        },
+    )
 }

@@ -6,6 +6,7 @@ mod course;
 mod grid;
 mod hatch;
 mod heading;
+mod hours;
 mod laws;
 mod layout;
 mod legend;
@@ -19,12 +20,13 @@ pub use course::{Course, course_at};
 pub use grid::{Axis, MINUTES, SLOTS, Scale, put_grid, put_line_path, put_span_end, step};
 pub use hatch::{HATCH, put_hatch};
 pub use heading::{put_ground, put_heading};
+pub use hours::{put_planned_hours, put_unplanned_hours};
 pub use laws::two_lines_hold;
 pub use layout::{place, plot, put_pin, put_stripe, rank};
 pub use legend::{
     Entry, LegendPlace, Sample, legend_begin, next_place, put_entries, put_entry_where,
 };
-pub use levels::{Full, Rising, greatest, reaches, touches_top};
+pub use levels::{Full, Rising, Whole, greatest, meets, reaches, touches_top};
 pub use outcome::{CargoUnit, Outcome, cargo_piece, meaning, put_badge, title};
 pub use panel::{Panel, put_planned_panel, put_unplanned_panel};
 pub use row::{

@@ -38,14 +38,14 @@ fn put_fleet_label<W: Writer>(out: &mut W, panel: Panel)
 }
 
 /// How tall the window of a panel is: at least one tug.
-fn tall(panel: Panel) -> u64
+pub(crate) fn tall(panel: Panel) -> u64
     ensures { result ≡ panel_tall panel }
 {
     panel.fleet.max(1)
 }
 
 /// The window of a panel.
-fn panel_window(panel: Panel) -> Window
+pub(crate) fn panel_window(panel: Panel) -> Window
     ensures { result ≡ plot panel.y 56 panel.span (panel_tall panel) }
 {
     plot(u64::from(panel.y), 56, panel.span, tall(panel))
