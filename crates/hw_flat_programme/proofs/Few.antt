@@ -8,6 +8,7 @@ use Rattle.hw_model.specs.declared.rule.Rule.{Rule}
 use Rattle.hw_model.specs.declared.rule.Rule.TheVariants.{Pair, After, Tugs}
 use Rattle.hw_model.specs.Limits.{HoleFits, IsFlat, RuleFits}
 use Rattle.hw_model.specs.Problem.{Problem, horizon}
+use Rattle.hw_model.specs.Rules.{fleet_in}
 use Rattle.hw_model_laws.proofs.Horizon.{slots_le}
 use Rattle.hw_flat_programme.specs.declared.format.Sense.TheVariants.{AtMost}
 use Rattle.hw_flat_programme.specs.declared.span.Span.{Span}
@@ -23,9 +24,9 @@ one_row f bound spans = by (nat_lt bound (weight_of (terms_of f spans)))
     by true = omega arith
     by false = omega arith
 
-numbered_few : (f : Problem) (bound : ℕ) (spans : ℕ → List Span) (k count : ℕ) → length (numbered_rows f bound spans k count) ≤ count
+numbered_few : (f : Problem) (bound : ℕ → ℕ) (spans : ℕ → List Span) (k count : ℕ) → length (numbered_rows f bound spans k count) ≤ count
 numbered_few f bound spans k zero = omega arith
-numbered_few f bound spans k (suc more) = omega (arith, length-append (row_at_most f bound (spans k)) (numbered_rows f bound spans (k + 1) more), one_row f bound (spans k), numbered_few f bound spans (k + 1) more)
+numbered_few f bound spans k (suc more) = omega (arith, length-append (row_at_most f (bound k) (spans k)) (numbered_rows f bound spans (k + 1) more), one_row f (bound k) (spans k), numbered_few f bound spans (k + 1) more)
 
 width_few : (hole : Hole) → HoleFits hole → width hole ≤ 1024
 width_few hole fits =
@@ -37,7 +38,7 @@ width_few hole fits =
     half n few = omega (arith, few)
 
 windows_few : (f : Problem) (v w : ℕ) (hole : Hole) → horizon f ≤ 512 → HoleFits hole → length (window_rows f v w hole) ≤ 1535
-windows_few f v w hole short fits = omega (arith, numbered_few f 1 (group_spans f v w hole) 0 (horizon f + width hole - 1), width_few hole fits, short)
+windows_few f v w hole short fits = omega (arith, numbered_few f (λ k. 1) (group_spans f v w hole) 0 (horizon f + width hole - 1), width_few hole fits, short)
 
 holes_few : (f : Problem) (v w : ℕ) (holes : List Hole) → horizon f ≤ 512 → All HoleFits holes → length (hole_rows f v w holes) ≤ 1535 * length holes
 holes_few f v w [] short fit = omega arith
@@ -46,8 +47,8 @@ holes_few f v w (hole ∷ holes) short fit =
 
 rule_few : (f : Problem) (rule : Rule) → horizon f ≤ 512 → RuleFits f.ships rule → length (rule_rows f rule) ≤ 12280
 rule_few f (Pair v w holes) short fits = omega (arith, holes_few f v w holes short fits.each_hole, fits.few_holes)
-rule_few f (After v w gap) short fits = omega (arith, numbered_few f 1 (after_spans f v w gap) 0 f.slots, slots_le f, short)
-rule_few f (Tugs fleet later jobs) short fits = omega (arith, numbered_few f fleet (job_spans jobs) 0 (horizon f), short)
+rule_few f (After v w gap) short fits = omega (arith, numbered_few f (λ k. 1) (after_spans f v w gap) 0 f.slots, slots_le f, short)
+rule_few f (Tugs fleet later jobs) short fits = omega (arith, numbered_few f (fleet_in fleet later) (job_spans jobs) 0 (horizon f), short)
 
 rules_few : (f : Problem) (rules : List Rule) → horizon f ≤ 512 → All (RuleFits f.ships) rules → length (rules_rows f rules) ≤ 12280 * length rules
 rules_few f [] short fit = omega arith

@@ -9,9 +9,10 @@ use Rattle.hw_model.specs.declared.rule.Hole.{Hole}
 use Rattle.hw_model.specs.declared.rule.Job.{Job}
 use Rattle.hw_model.specs.declared.rule.Rule.{Rule}
 use Rattle.hw_model.specs.declared.rule.Rule.TheVariants.{Pair, After, Tugs}
+use Rattle.hw_model.specs.declared.rule.Step.{Step}
 use Rattle.hw_model.specs.Limits.{HoleFits, JobFits, RuleFits}
 use Rattle.hw_model.specs.Problem.{Problem, horizon, stays}
-use Rattle.hw_model.specs.Rules.{misses, pair_holds, held_by, rule_holds}
+use Rattle.hw_model.specs.Rules.{misses, pair_holds, held_by, fleet_in, rule_holds}
 use Rattle.hw_model_laws.proofs.Counting.{all_of_range, range_all}
 use Rattle.hw_model_laws.proofs.Horizon.{horizon_le}
 use Rattle.hw_flat_programme.specs.declared.span.Span.{Span}
@@ -48,7 +49,7 @@ window_sails f v w hole last a b =
 hole_satisfied : (f : Problem) (p : Point) (table : List ℕ) (v w : ℕ) (hole : Hole) → Seated f p table → Clear f table → v < f.ships → w < f.ships
     → ((slice_index table v < horizon f) → (slice_index table w < horizon f) → misses (pos (slice_index table w) -ℤ pos (slice_index table v)) hole ≡ true) → SatisfiesRows p (window_rows f v w hole)
 hole_satisfied f p table v w hole seated clear a b holds =
-    rows_hold f p 1 (group_spans f v w hole) 0 (horizon f + width hole - 1)
+    rows_hold f p (λ k. 1) (group_spans f v w hole) 0 (horizon f + width hole - 1)
     (λ last le lt. grown_holds f p table (window_spans f v w hole last) 0 f.ships seated clear (omega arith) (window_sails f v w hole last a b)
     (two_hold f p (slice_index table v) (slice_index table w) (first_window f v hole last) (partner f w hole (first_window f v hole last)) (window_two f p table v w hole last seated a b)
     (λ i j. both_ways _ (partner_in_hole f w hole (first_window f v hole last) (slice_index table v) (slice_index table w) i j) (holds (omega (arith, i.1)) (omega (arith, j.1))))))
@@ -59,7 +60,7 @@ hole_kept f p table v w hole seated a b ordered x_in y_in satisfied = by (cases_
   where
     against : IsFound f v w hole (slice_index table v) (slice_index table w) → ⊥
     against found = two_apart f p (slice_index table v) (slice_index table w) (first_window f v hole found.last) (partner f w hole (first_window f v hole found.last)) (window_two f p table v w hole found.last seated a b)
-        (omega (arith, grown_more f p (window_spans f v w hole found.last) 0 f.ships, rows_give f p 1 (group_spans f v w hole) 0 (horizon f + width hole - 1) satisfied found.last (omega arith) (omega (arith, found.few)))) found.first found.second
+        (omega (arith, grown_more f p (window_spans f v w hole found.last) 0 f.ships, rows_give f p (λ k. 1) (group_spans f v w hole) 0 (horizon f + width hole - 1) satisfied found.last (omega arith) (omega (arith, found.few)))) found.first found.second
 
     by : (misses (pos (slice_index table w) -ℤ pos (slice_index table v)) hole ≡ true) ⊎ (misses (pos (slice_index table w) -ℤ pos (slice_index table v)) hole ≡ false) → misses (pos (slice_index table w) -ℤ pos (slice_index table v)) hole ≡ true
     by (inl e) = e
@@ -102,7 +103,7 @@ after_two f p table v w gap slot seated a b = record {
 
 after_satisfied : (f : Problem) (p : Point) (table : List ℕ) (v w gap : ℕ) → Seated f p table → v < f.ships → w < f.ships → pair_holds f (After v w gap) (slice_index table v) (slice_index table w) ≡ true → SatisfiesRows p (rule_rows f (After v w gap))
 after_satisfied f p table v w gap seated a b holds =
-    rows_hold f p 1 (after_spans f v w gap) 0 f.slots
+    rows_hold f p (λ k. 1) (after_spans f v w gap) 0 f.slots
     (λ slot le lt. two_hold f p (slice_index table v) (slice_index table w) (late_span f v slot) (early_span f w gap slot) (after_two f p table v w gap slot seated a b) (λ i j. apart (slice_index table v) (slice_index table w) slot i.0 j.1 holds))
   where
     apart : (x y slot : ℕ) → slot ≤ x → y < min (horizon f) (slot + gap) → (stays f y || (not (stays f x) && nat_le (x + gap) y)) ≡ true → ⊥
@@ -118,7 +119,7 @@ after_kept f p table v w gap seated a b satisfied =
     let x : ℕ = slice_index table v in
     let y : ℕ = slice_index table w in
     by x y (cases_lt y (horizon f)) (cases_lt y (x + gap))
-    (λ one two. two_apart f p x y (late_span f v x) (early_span f w gap x) (after_two f p table v w gap x seated a b) (rows_give f p 1 (after_spans f v w gap) 0 f.slots satisfied x (omega arith) (omega (arith, sits.slot_in))) (omega arith, sits.slot_in) (omega arith, omega (arith, one, two)))
+    (λ one two. two_apart f p x y (late_span f v x) (early_span f w gap x) (after_two f p table v w gap x seated a b) (rows_give f p (λ k. 1) (after_spans f v w gap) 0 f.slots satisfied x (omega arith) (omega (arith, sits.slot_in))) (omega arith, sits.slot_in) (omega arith, omega (arith, one, two)))
   where
     by : (x y : ℕ) → (y < horizon f) ⊎ (horizon f ≤ y) → (y < x + gap) ⊎ (x + gap ≤ y) → (y < horizon f → y < x + gap → ⊥) → (stays f y || (not (stays f x) && nat_le (x + gap) y)) ≡ true
     by x y (inr past) either apart = or_left (stays f y) (not (stays f x) && nat_le (x + gap) y) (le-leb (horizon f) y past)
@@ -160,16 +161,16 @@ jobs_total f p table slot (job ∷ jobs) seated fit lt =
     let rest = jobs_total f p table slot jobs seated (All-tail (JobFits f.ships) job jobs fit) lt in
     omega (arith, total-append p (span_terms f (job_span slot job)) (terms_of f (job_spans jobs slot)), here, rest, sum_by-cons (held_by table slot) job jobs)
 
-tugs_satisfied : (f : Problem) (p : Point) (table : List ℕ) (fleet : ℕ) (jobs : List Job) → Seated f p table → All (JobFits f.ships) jobs → rule_holds f table (Tugs fleet later jobs) ≡ true → SatisfiesRows p (rule_rows f (Tugs fleet later jobs))
-tugs_satisfied f p table fleet jobs seated fit holds =
-    rows_hold f p fleet (job_spans jobs) 0 (horizon f)
-    (λ slot le lt. let few : sum_by (held_by table slot) jobs ≤ fleet = leb-true _ _ (all_of_range (λ slot. nat_le (sum_by (held_by table slot) jobs) fleet) 0 (horizon f) holds slot le lt) in
+tugs_satisfied : (f : Problem) (p : Point) (table : List ℕ) (fleet : ℕ) (later : List Step) (jobs : List Job) → Seated f p table → All (JobFits f.ships) jobs → rule_holds f table (Tugs fleet later jobs) ≡ true → SatisfiesRows p (rule_rows f (Tugs fleet later jobs))
+tugs_satisfied f p table fleet later jobs seated fit holds =
+    rows_hold f p (fleet_in fleet later) (job_spans jobs) 0 (horizon f)
+    (λ slot le lt. let few : sum_by (held_by table slot) jobs ≤ fleet_in fleet later slot = leb-true _ _ (all_of_range (λ slot. nat_le (sum_by (held_by table slot) jobs) (fleet_in fleet later slot)) 0 (horizon f) holds slot le lt) in
     omega (arith, few, jobs_total f p table slot jobs seated fit (omega (arith, lt))))
 
-tugs_kept : (f : Problem) (p : Point) (table : List ℕ) (fleet : ℕ) (jobs : List Job) → Seated f p table → All (JobFits f.ships) jobs → SatisfiesRows p (rule_rows f (Tugs fleet later jobs)) → rule_holds f table (Tugs fleet later jobs) ≡ true
-tugs_kept f p table fleet jobs seated fit satisfied =
-    range_all (λ slot. nat_le (sum_by (held_by table slot) jobs) fleet) 0 (horizon f)
-    (λ slot le lt. le-leb _ _ (omega (arith, rows_give f p fleet (job_spans jobs) 0 (horizon f) satisfied slot le lt, jobs_total f p table slot jobs seated fit (omega (arith, lt)))))
+tugs_kept : (f : Problem) (p : Point) (table : List ℕ) (fleet : ℕ) (later : List Step) (jobs : List Job) → Seated f p table → All (JobFits f.ships) jobs → SatisfiesRows p (rule_rows f (Tugs fleet later jobs)) → rule_holds f table (Tugs fleet later jobs) ≡ true
+tugs_kept f p table fleet later jobs seated fit satisfied =
+    range_all (λ slot. nat_le (sum_by (held_by table slot) jobs) (fleet_in fleet later slot)) 0 (horizon f)
+    (λ slot le lt. le-leb _ _ (omega (arith, rows_give f p (fleet_in fleet later) (job_spans jobs) 0 (horizon f) satisfied slot le lt, jobs_total f p table slot jobs seated fit (omega (arith, lt)))))
 
 -- ---- rules
 
@@ -196,12 +197,12 @@ clears f x y c h = by (cases_lt x (horizon f)) (cases_lt y (horizon f))
 rule_satisfied : (f : Problem) (p : Point) (table : List ℕ) (rule : Rule) → Seated f p table → Clear f table → RuleFits f.ships rule → rule_holds f table rule ≡ true → SatisfiesRows p (rule_rows f rule)
 rule_satisfied f p table (Pair v w holes) seated clear fits holds = holes_satisfied f p table v w holes seated clear (omega (arith, fits.ascends, fits.ship_in)) fits.ship_in (λ x_in y_in. cleared f (slice_index table v) (slice_index table w) _ holds x_in y_in)
 rule_satisfied f p table (After v w gap) seated clear fits holds = after_satisfied f p table v w gap seated fits.first_in fits.second_in holds
-rule_satisfied f p table (Tugs fleet later jobs) seated clear fits holds = tugs_satisfied f p table fleet jobs seated fits.each_job holds
+rule_satisfied f p table (Tugs fleet later jobs) seated clear fits holds = tugs_satisfied f p table fleet later jobs seated fits.each_job holds
 
 rule_kept : (f : Problem) (p : Point) (table : List ℕ) (rule : Rule) → Seated f p table → RuleFits f.ships rule → SatisfiesRows p (rule_rows f rule) → rule_holds f table rule ≡ true
 rule_kept f p table (Pair v w holes) seated fits satisfied = clears f (slice_index table v) (slice_index table w) (list_all (misses (pos (slice_index table w) -ℤ pos (slice_index table v))) holes) (λ x_in y_in. holes_kept f p table v w holes seated (omega (arith, fits.ascends, fits.ship_in)) fits.ship_in fits.each_hole x_in y_in satisfied)
 rule_kept f p table (After v w gap) seated fits satisfied = after_kept f p table v w gap seated fits.first_in fits.second_in satisfied
-rule_kept f p table (Tugs fleet later jobs) seated fits satisfied = tugs_kept f p table fleet jobs seated fits.each_job satisfied
+rule_kept f p table (Tugs fleet later jobs) seated fits satisfied = tugs_kept f p table fleet later jobs seated fits.each_job satisfied
 
 pub rules_satisfied : (f : Problem) (p : Point) (table : List ℕ) (rules : List Rule) → Seated f p table → Clear f table → All (RuleFits f.ships) rules → ((place : ℕ) → IfSome (slice_get rules place) (λ rule. IsTrue (rule_holds f table rule))) → SatisfiesRows p (rules_rows f rules)
 rules_satisfied f p table [] seated clear fit keeps = tt

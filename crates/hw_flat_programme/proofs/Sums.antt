@@ -46,24 +46,24 @@ at_most_gives f p bound spans h = by (nat_lt bound (weight_of (terms_of f spans)
     by true e h = h.0
     by false e h = omega (arith, ltb-false _ _ e, total_le p (terms_of f spans))
 
-pub rows_hold : (f : Problem) (p : Point) (bound : ℕ) (spans : ℕ → List Span) (k count : ℕ) → ((i : ℕ) → k ≤ i → i < k + count → total p (terms_of f (spans i)) ≤ bound) → SatisfiesRows p (numbered_rows f bound spans k count)
+pub rows_hold : (f : Problem) (p : Point) (bound : ℕ → ℕ) (spans : ℕ → List Span) (k count : ℕ) → ((i : ℕ) → k ≤ i → i < k + count → total p (terms_of f (spans i)) ≤ bound i) → SatisfiesRows p (numbered_rows f bound spans k count)
 rows_hold f p bound spans k zero h = tt
 rows_hold f p bound spans k (suc more) h =
-    satisfies-append p (row_at_most f bound (spans k)) (numbered_rows f bound spans (k + 1) more)
-    (at_most_holds f p bound (spans k) (h k (omega arith) (omega arith)))
+    satisfies-append p (row_at_most f (bound k) (spans k)) (numbered_rows f bound spans (k + 1) more)
+    (at_most_holds f p (bound k) (spans k) (h k (omega arith) (omega arith)))
     (rows_hold f p bound spans (k + 1) more (λ i le lt. h i (omega (arith, le)) (omega (arith, lt))))
 
-pub rows_give : (f : Problem) (p : Point) (bound : ℕ) (spans : ℕ → List Span) (k count : ℕ) → SatisfiesRows p (numbered_rows f bound spans k count) → (i : ℕ) → k ≤ i → i < k + count → total p (terms_of f (spans i)) ≤ bound
+pub rows_give : (f : Problem) (p : Point) (bound : ℕ → ℕ) (spans : ℕ → List Span) (k count : ℕ) → SatisfiesRows p (numbered_rows f bound spans k count) → (i : ℕ) → k ≤ i → i < k + count → total p (terms_of f (spans i)) ≤ bound i
 rows_give f p bound spans k zero h i le lt = absurd (omega arith)
 rows_give f p bound spans k (suc more) h i le lt =
-    let parts = satisfies_parts p (row_at_most f bound (spans k)) (numbered_rows f bound spans (k + 1) more) h in
+    let parts = satisfies_parts p (row_at_most f (bound k) (spans k)) (numbered_rows f bound spans (k + 1) more) h in
     elim (cases_eq k i) [
-      | inl same ↦ at i same (at_most_gives f p bound (spans k) parts.0)
+      | inl same ↦ at i same (at_most_gives f p (bound k) (spans k) parts.0)
       | inr ne ↦ rows_give f p bound spans (k + 1) more parts.1 i (later k i le ne) (omega (arith, lt))
     ]
   where
-    at : (i : ℕ) → k ≡ i → total p (terms_of f (spans k)) ≤ bound → total p (terms_of f (spans i)) ≤ bound
-    at i same h = let P : ℕ → Type 0 = λ n. total p (terms_of f (spans n)) ≤ bound in subst P same h
+    at : (i : ℕ) → k ≡ i → total p (terms_of f (spans k)) ≤ bound k → total p (terms_of f (spans i)) ≤ bound i
+    at i same h = let P : ℕ → Type 0 = λ n. total p (terms_of f (spans n)) ≤ bound n in subst P same h
 
     later : (k i : ℕ) → k ≤ i → (k ≡ i → ⊥) → k + 1 ≤ i
     later k i le ne = grind arith

@@ -6,8 +6,10 @@ use Rattle.hw_model.specs.declared.rule.Hole.{Hole}
 use Rattle.hw_model.specs.declared.rule.Job.{Job}
 use Rattle.hw_model.specs.declared.rule.Rule.{Rule}
 use Rattle.hw_model.specs.declared.rule.Rule.TheVariants.{Pair, After, Tugs}
+use Rattle.hw_model.specs.declared.rule.Step.{Step}
 use Rattle.hw_model.specs.Problem.{Problem, horizon, value_at}
 use Rattle.hw_model.specs.Refuting.{greatest_value}
+use Rattle.hw_model.specs.Rules.{fleet_in}
 use Rattle.hw_flat_programme.specs.declared.format.Format.{Format}
 use Rattle.hw_flat_programme.specs.declared.format.Format.TheVariants.{Lp, Opb}
 use Rattle.hw_flat_programme.specs.declared.format.Sense.TheVariants.{AtMost, Exactly}
@@ -75,10 +77,10 @@ most_from f ship (suc more) = most f ship + most_from f (ship + 1) more
 abbrev pub row_at_most : Problem → ℕ → List Span → List Row
 row_at_most f bound spans = if nat_lt bound (weight_of (terms_of f spans)) then record { terms = terms_of f spans; sense = AtMost; bound = bound } ∷ [] else []
 
--- one such row for each of `count` numbers from this one on, over its own spans
-abbrev pub numbered_rows : Problem → ℕ → (ℕ → List Span) → ℕ → ℕ → List Row
+-- one such row for each of `count` numbers from this one on, with its own bound and over its own spans
+abbrev pub numbered_rows : Problem → (ℕ → ℕ) → (ℕ → List Span) → ℕ → ℕ → List Row
 numbered_rows f bound spans k zero = []
-numbered_rows f bound spans k (suc more) = row_at_most f bound (spans k) ++ numbered_rows f bound spans (k + 1) more
+numbered_rows f bound spans k (suc more) = row_at_most f (bound k) (spans k) ++ numbered_rows f bound spans (k + 1) more
 
 -- all slots of a ship, with weight 1
 abbrev pub whole_span : Problem → ℕ → Span
@@ -193,7 +195,7 @@ group_spans f v w hole last = grown f (window_spans f v w hole last)
 
 -- the windows of a hole: the first ship's end with each slot of the horizon, and after it while they begin in it
 abbrev pub window_rows : Problem → ℕ → ℕ → Hole → List Row
-window_rows f v w hole = numbered_rows f 1 (group_spans f v w hole) 0 (horizon f + width hole - 1)
+window_rows f v w hole = numbered_rows f (λ k. 1) (group_spans f v w hole) 0 (horizon f + width hole - 1)
 
 abbrev pub hole_rows : Problem → ℕ → ℕ → List Hole → List Row
 hole_rows f v w [] = []
@@ -204,7 +206,7 @@ abbrev pub after_spans : Problem → ℕ → ℕ → ℕ → ℕ → List Span
 after_spans f v w gap slot = record { ship = v; from = slot; to = f.slots; weight = 1 } ∷ record { ship = w; from = 0; to = min (horizon f) (slot + gap); weight = 1 } ∷ []
 
 abbrev pub after_rows : Problem → ℕ → ℕ → ℕ → List Row
-after_rows f v w gap = numbered_rows f 1 (after_spans f v w gap) 0 f.slots
+after_rows f v w gap = numbered_rows f (λ k. 1) (after_spans f v w gap) 0 f.slots
 
 -- the slots from which a job holds its tugs in a slot
 abbrev pub job_span : ℕ → Job → Span
@@ -213,14 +215,14 @@ job_span slot job = record { ship = job.ship; from = slot + 1 - job.hold; to = s
 abbrev pub job_spans : List Job → ℕ → List Span
 job_spans jobs slot = map (job_span slot) jobs
 
--- in each slot of the horizon no more tugs are held than the fleet has
-abbrev pub tug_rows : Problem → ℕ → List Job → List Row
-tug_rows f fleet jobs = numbered_rows f fleet (job_spans jobs) 0 (horizon f)
+-- in each slot of the horizon no more tugs are held than the fleet has in it
+abbrev pub tug_rows : Problem → ℕ → List Step → List Job → List Row
+tug_rows f fleet later jobs = numbered_rows f (fleet_in fleet later) (job_spans jobs) 0 (horizon f)
 
 abbrev pub rule_rows : Problem → Rule → List Row
 rule_rows f (Pair v w holes) = hole_rows f v w holes
 rule_rows f (After v w gap) = after_rows f v w gap
-rule_rows f (Tugs fleet later jobs) = tug_rows f fleet jobs
+rule_rows f (Tugs fleet later jobs) = tug_rows f fleet later jobs
 
 abbrev pub rules_rows : Problem → List Rule → List Row
 rules_rows f [] = []

@@ -1,6 +1,7 @@
 -- Small problems, and their programmes and texts worked out by hand.
 use Rattle.std.specs.Prelude.{◌≡◌, ℕ, pos, neg_ℤ, true, false, List, [], ◌∷◌, Some, None, codes}
 use Rattle.hw_model.specs.declared.rule.Rule.TheVariants.{Pair, After, Tugs}
+use Rattle.hw_model.specs.declared.rule.Step.{Step}
 use Rattle.hw_model.specs.Problem.{Problem}
 use Rattle.hw_flat_programme.specs.declared.format.Sense.TheVariants.{AtMost, Exactly}
 use Rattle.hw_flat_programme.specs.Programmes.{Term, Row}
@@ -39,8 +40,12 @@ abbrev pub one_waits : Problem
 one_waits = record { ships = 2; slots = 3; stay = true; values = Some 1 ∷ Some 2 ∷ Some 0 ∷ Some 3 ∷ Some 4 ∷ None ∷ []; rules = After 0 1 1 ∷ [] }
 
 -- two ships of two tugs each, the first one for two slots
-abbrev pub tug_pair_of_fleet : ℕ → Problem
-tug_pair_of_fleet fleet = record { ships = 2; slots = 2; stay = false; values = Some 1 ∷ Some 1 ∷ Some 1 ∷ Some 1 ∷ []; rules = Tugs fleet (record { ship = 0; tugs = 2; hold = 2 } ∷ record { ship = 1; tugs = 2; hold = 1 } ∷ []) ∷ [] }
+abbrev pub tug_pair_of_fleet : ℕ → List Step → Problem
+tug_pair_of_fleet fleet later = record { ships = 2; slots = 2; stay = false; values = Some 1 ∷ Some 1 ∷ Some 1 ∷ Some 1 ∷ []; rules = Tugs fleet later (record { ship = 0; tugs = 2; hold = 2 } ∷ record { ship = 1; tugs = 2; hold = 1 } ∷ []) ∷ [] }
+
+-- from a slot on so many tugs
+abbrev pub fleet_from : ℕ → ℕ → List Step
+fleet_from slot fleet = record { from = slot; fleet = fleet } ∷ []
 
 -- a ship that can neither sail nor stay
 abbrev pub stranded_ship : Problem
@@ -50,8 +55,10 @@ pub record WorkedRows : Type 0 where
   pub two_apart_rows : rows_of ships_apart_with_gap ≡ exactly_one (single_term 0 0 ∷ single_term 0 1 ∷ single_term 0 2 ∷ []) ∷ exactly_one (single_term 1 0 ∷ single_term 1 2 ∷ []) ∷ most_one (single_term 0 0 ∷ single_term 1 0 ∷ []) ∷ most_one (single_term 0 0 ∷ single_term 0 1 ∷ single_term 1 0 ∷ []) ∷ most_one (single_term 0 1 ∷ single_term 0 2 ∷ single_term 1 2 ∷ []) ∷ most_one (single_term 0 2 ∷ single_term 1 2 ∷ []) ∷ []
   pub three_apart_rows : rules_rows three_apart three_apart.rules ≡ most_one (single_term 0 0 ∷ single_term 1 0 ∷ single_term 2 0 ∷ []) ∷ most_one (single_term 0 0 ∷ single_term 2 0 ∷ single_term 1 0 ∷ []) ∷ most_one (single_term 1 0 ∷ single_term 2 0 ∷ single_term 0 0 ∷ []) ∷ most_one (single_term 0 0 ∷ single_term 3 0 ∷ []) ∷ []
   pub one_waits_rows : rules_rows one_waits one_waits.rules ≡ most_one (single_term 0 0 ∷ single_term 0 1 ∷ single_term 0 2 ∷ single_term 1 0 ∷ []) ∷ most_one (single_term 0 1 ∷ single_term 0 2 ∷ single_term 1 0 ∷ single_term 1 1 ∷ []) ∷ most_one (single_term 0 2 ∷ single_term 1 0 ∷ single_term 1 1 ∷ []) ∷ []
-  pub three_tugs_rows : rules_rows (tug_pair_of_fleet 3) (tug_pair_of_fleet 3).rules ≡ most_tugs 3 (double_term 0 0 ∷ double_term 1 0 ∷ []) ∷ most_tugs 3 (double_term 0 0 ∷ double_term 0 1 ∷ double_term 1 1 ∷ []) ∷ []
-  pub four_tugs_rows : rules_rows (tug_pair_of_fleet 4) (tug_pair_of_fleet 4).rules ≡ most_tugs 4 (double_term 0 0 ∷ double_term 0 1 ∷ double_term 1 1 ∷ []) ∷ []
+  pub three_tugs_rows : rules_rows (tug_pair_of_fleet 3 []) (tug_pair_of_fleet 3 []).rules ≡ most_tugs 3 (double_term 0 0 ∷ double_term 1 0 ∷ []) ∷ most_tugs 3 (double_term 0 0 ∷ double_term 0 1 ∷ double_term 1 1 ∷ []) ∷ []
+  pub four_tugs_rows : rules_rows (tug_pair_of_fleet 4 []) (tug_pair_of_fleet 4 []).rules ≡ most_tugs 4 (double_term 0 0 ∷ double_term 0 1 ∷ double_term 1 1 ∷ []) ∷ []
+  pub fewer_later_rows : rules_rows (tug_pair_of_fleet 4 (fleet_from 1 3)) (tug_pair_of_fleet 4 (fleet_from 1 3)).rules ≡ most_tugs 3 (double_term 0 0 ∷ double_term 0 1 ∷ double_term 1 1 ∷ []) ∷ []
+  pub more_later_rows : rules_rows (tug_pair_of_fleet 3 (fleet_from 1 5)) (tug_pair_of_fleet 3 (fleet_from 1 5)).rules ≡ most_tugs 3 (double_term 0 0 ∷ double_term 1 0 ∷ []) ∷ most_tugs 5 (double_term 0 0 ∷ double_term 0 1 ∷ double_term 1 1 ∷ []) ∷ []
   pub nowhere_rows : rows_of stranded_ship ≡ exactly_one [] ∷ []
 
 -- the texts of two of them

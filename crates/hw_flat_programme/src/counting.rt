@@ -13,7 +13,8 @@ use crate::span::{Span, weight};
 use crate::spans::Spans;
 use crate::windows::{after_spans, job_spans, width, window_spans};
 use hw_flat::Flat;
-use hw_model::{Hole, Job, Rule, ShipId};
+use hw_model::{Hole, Job, Rule, ShipId, Step};
+use hw_rules::Fleet;
 
 /// How many rows `put_at_most` puts: one or none.
 fn count_at_most(flat: &Flat, bound: u32, spans: &[Span]) -> u32
@@ -86,14 +87,16 @@ fn count_after(flat: &Flat, v: ShipId, w: ShipId, gap: u32) -> u32
 }
 
 /// How many rows a rule on tugs has.
-fn count_tugs(flat: &Flat, fleet: u32, jobs: &[Job]) -> u32
-    requires { TugsFit flat.now.ships fleet jobs.now }
-    ensures value { result ≡ length (tug_rows flat.now fleet jobs.now) }
+fn count_tugs(flat: &Flat, fleet: u32, later: &[Step], jobs: &[Job]) -> u32
+    requires { TugsFit flat.now.ships fleet later.now jobs.now }
+    ensures value { result ≡ length (tug_rows flat.now fleet later.now jobs.now) }
     ensures small { result ≤ MOST_SLOTS }
 {
     let mut count = 0;
+    let mut tugs = Fleet::new(fleet, later);
     for slot in 0..flat.horizon() {
-        count += count_at_most(flat, fleet, job_spans(jobs, slot).as_slice());
+        let bound = tugs.tugs_in(slot);
+        count += count_at_most(flat, bound, job_spans(jobs, slot).as_slice());
     }
     count
 }
@@ -107,7 +110,12 @@ fn count_rule(apart: &Apart, rule: &Rule) -> u32
     match rule {
         Rule::Pair { v, w, holes } => count_holes(apart, *v, *w, &holes.items),
         Rule::After { v, w, gap } => count_after(apart.flat(), *v, *w, *gap),
-        Rule::Tugs { fleet, jobs } => count_tugs(apart.flat(), *fleet, &jobs.items),
+        Rule::Tugs { fleet, later, jobs } => count_tugs(
+            apart.flat(),
+            *fleet,
+            &later.items,
+            &jobs.items,
+        ),
     }
 }
 

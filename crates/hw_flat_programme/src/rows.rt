@@ -18,7 +18,8 @@ use crate::terms::{put_no_terms, put_span, put_spans};
 use crate::windows::{after_spans, job_spans, whole_span, width, window_spans};
 use hw_desk::Writer;
 use hw_flat::Flat;
-use hw_model::{Hole, Job, Rule, ShipId};
+use hw_model::{Hole, Job, Rule, ShipId, Step};
+use hw_rules::Fleet;
 
 /// Puts the row that a weight in some spans is at most a bound, unless all of them together are.
 fn put_at_most<W: Writer>(out: &mut W, flat: &Flat, format: Format, bound: u32, spans: &[Span])
@@ -122,12 +123,21 @@ fn put_after<W: Writer>(out: &mut W, flat: &Flat, format: Format, v: ShipId, w: 
 }
 
 /// Puts the rows of a rule on tugs.
-fn put_tugs<W: Writer>(out: &mut W, flat: &Flat, format: Format, fleet: u32, jobs: &[Job])
-    requires { TugsFit flat.now.ships fleet jobs.now }
-    ensures { Puts (rows_text format flat.now.slots (tug_rows flat.now fleet jobs.now)) (W.state out.old) (W.state out.new) }
+fn put_tugs<W: Writer>(
+    out: &mut W,
+    flat: &Flat,
+    format: Format,
+    fleet: u32,
+    later: &[Step],
+    jobs: &[Job],
+)
+    requires { TugsFit flat.now.ships fleet later.now jobs.now }
+    ensures { Puts (rows_text format flat.now.slots (tug_rows flat.now fleet later.now jobs.now)) (W.state out.old) (W.state out.new) }
 {
+    let mut tugs = Fleet::new(fleet, later);
     for slot in 0..flat.horizon() {
-        put_at_most(out, flat, format, fleet, job_spans(jobs, slot).as_slice());
+        let bound = tugs.tugs_in(slot);
+        put_at_most(out, flat, format, bound, job_spans(jobs, slot).as_slice());
     }
 }
 
@@ -139,7 +149,14 @@ fn put_rule<W: Writer>(out: &mut W, apart: &Apart, format: Format, rule: &Rule)
     match rule {
         Rule::Pair { v, w, holes } => put_holes(out, apart, format, *v, *w, &holes.items),
         Rule::After { v, w, gap } => put_after(out, apart.flat(), format, *v, *w, *gap),
-        Rule::Tugs { fleet, jobs } => put_tugs(out, apart.flat(), format, *fleet, &jobs.items),
+        Rule::Tugs { fleet, later, jobs } => put_tugs(
+            out,
+            apart.flat(),
+            format,
+            *fleet,
+            &later.items,
+            &jobs.items,
+        ),
     }
 }
 

@@ -6,4 +6,4 @@ use Rattle.hw_flat_programme.proofs.counting.count_hole.Given as goal
 -- with the rows that are left it is all of them
 abbrev pub invariant-loop-last : goal.invariant-loop-last
 invariant-loop-last l =
-    (l.count + length (numbered_rows l.apart 1 (group_spans l.apart l.v l.w l.hole) l.last (horizon l.apart + width l.hole - 1 - l.last)) ≡ length (window_rows l.apart l.v l.w l.hole)) × (l.count ≤ l.last)
+    (l.count + length (numbered_rows l.apart (λ k. 1) (group_spans l.apart l.v l.w l.hole) l.last (horizon l.apart + width l.hole - 1 - l.last)) ≡ length (window_rows l.apart l.v l.w l.hole)) × (l.count ≤ l.last)
