@@ -55,20 +55,20 @@ sails_later p h table a listed holds =
 -- ---- tugs
 
 -- a rule by its jobs, of which there may be none
-each_of : (f : Problem) (table : List ℕ) (fleet : ℕ) (jobs : List Job) → rule_holds f table (rules.Tugs fleet later jobs) ≡ true → Each (λ rule. rule_holds f table rule ≡ true) (tug_rule fleet jobs)
+each_of : (f : Problem) (table : List ℕ) (fleet : ℕ) (jobs : List Job) → rule_holds f table (rules.Tugs fleet [] jobs) ≡ true → Each (λ rule. rule_holds f table rule ≡ true) (tug_rule fleet jobs)
 each_of f table fleet [] h = tt
 each_of f table fleet (job ∷ jobs) h = (h, tt)
 
-fleet_suffices : (p : Parts) (h : TideParts) (table : List ℕ) → IsPortTimetable p table → rule_holds (flattened p h) table (rules.Tugs (whole p.fleet) (jobs_from p 0 p.ships)) ≡ true → FleetSuffices p table (whole p.fleet)
+fleet_suffices : (p : Parts) (h : TideParts) (table : List ℕ) → IsPortTimetable p table → rule_holds (flattened p h) table (rules.Tugs (whole p.fleet) [] (jobs_from p 0 p.ships)) ≡ true → FleetSuffices p table (whole p.fleet)
 fleet_suffices p h table listed holds slot lt =
     let le = tugs_from (flattened p h) table (whole p.fleet) (jobs_from p 0 p.ships) (each_of (flattened p h) table (whole p.fleet) (jobs_from p 0 p.ships) holds) slot (omega (arith, lt, horizon_is p h)) in
     let same = tugs_same p table slot listed.each_ship lt in
     omega (arith, le, same)
 
-of_each : (f : Problem) (table : List ℕ) (fleet : ℕ) (job : Job) (jobs : List Job) → Each (λ rule. rule_holds f table rule ≡ true) (tug_rule fleet (job ∷ jobs)) → rule_holds f table (rules.Tugs fleet (job ∷ jobs)) ≡ true
+of_each : (f : Problem) (table : List ℕ) (fleet : ℕ) (job : Job) (jobs : List Job) → Each (λ rule. rule_holds f table rule ≡ true) (tug_rule fleet (job ∷ jobs)) → rule_holds f table (rules.Tugs fleet [] (job ∷ jobs)) ≡ true
 of_each f table fleet job jobs h = h.0
 
-fleet_holds : (p : Parts) (h : TideParts) (table : List ℕ) (job : Job) (jobs : List Job) → IsPortTimetable p table → jobs_from p 0 p.ships ≡ job ∷ jobs → FleetSuffices p table (whole p.fleet) → rule_holds (flattened p h) table (rules.Tugs (whole p.fleet) (job ∷ jobs)) ≡ true
+fleet_holds : (p : Parts) (h : TideParts) (table : List ℕ) (job : Job) (jobs : List Job) → IsPortTimetable p table → jobs_from p 0 p.ships ≡ job ∷ jobs → FleetSuffices p table (whole p.fleet) → rule_holds (flattened p h) table (rules.Tugs (whole p.fleet) [] (job ∷ jobs)) ≡ true
 fleet_holds p h table job jobs listed are suffices = of_each (flattened p h) table (whole p.fleet) job jobs (from_tugs (flattened p h) table (whole p.fleet) (job ∷ jobs) (λ slot lt.
     let in' : slot < horizon_of p = omega (arith, lt, horizon_is p h) in
     let same = subst (λ js. sum_by (held_by table slot) js ≡ sum_by (tugs_held p slot) (zip p.ships table)) are (tugs_same p table slot listed.each_ship in') in
@@ -94,7 +94,7 @@ stands_means p h table named rule kept listed (by_after a is rule_is) =
     let says : Says p h table (after_named a) (after_rule a) = (sails_later p h table a listed, later_holds p h table a) in
     subst (λ n. Says p h table n rule) (sym is) (subst (Says p h table (after_named a)) (sym rule_is) says)
 stands_means p h table named rule kept listed (by_tugs job jobs are is rule_is) =
-    let says : Says p h table (Tugs (whole p.fleet)) (rules.Tugs (whole p.fleet) (job ∷ jobs)) = (λ holds. fleet_suffices p h table listed (subst (λ js. rule_holds (flattened p h) table (rules.Tugs (whole p.fleet) js) ≡ true) (sym are) holds), fleet_holds p h table job jobs listed are) in
+    let says : Says p h table (Tugs (whole p.fleet)) (rules.Tugs (whole p.fleet) [] (job ∷ jobs)) = (λ holds. fleet_suffices p h table listed (subst (λ js. rule_holds (flattened p h) table (rules.Tugs (whole p.fleet) [] js) ≡ true) (sym are) holds), fleet_holds p h table job jobs listed are) in
     subst (λ n. Says p h table n rule) (sym is) (subst (Says p h table (Tugs (whole p.fleet))) (sym rule_is) says)
 
 -- ---- the very rule

@@ -35,7 +35,7 @@ pub data Stands (p : Parts) (named : Named) (rule : Rule) : Type 0 where
       → named ≡ Sections v w (shared_sections s.channel r.channel) → rule ≡ rules.Pair v w (shared_holes s.channel r.channel) → Stands p named rule
   by_berth : (b : BerthPair) → named ≡ berth_named b → rule ≡ berth_rule b → Stands p named rule
   by_after : (a : AfterPair) → named ≡ after_named a → rule ≡ after_rule a → Stands p named rule
-  by_tugs : (job : Job) (jobs : List Job) → jobs_from p 0 p.ships ≡ job ∷ jobs → named ≡ Tugs (whole p.fleet) → rule ≡ rules.Tugs (whole p.fleet) (job ∷ jobs) → Stands p named rule
+  by_tugs : (job : Job) (jobs : List Job) → jobs_from p 0 p.ships ≡ job ∷ jobs → named ≡ Tugs (whole p.fleet) → rule ≡ rules.Tugs (whole p.fleet) [] (job ∷ jobs) → Stands p named rule
 
 abbrev pub Parallel : Parts → List Named → List Rule → Type 0
 Parallel p [] [] = Unit {0}

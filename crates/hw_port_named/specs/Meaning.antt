@@ -73,4 +73,4 @@ IsNamed f number (Sections v w sections) =
     (holes : List Hole) × (length holes ≡ length sections) × IsRule f number (rules.Pair v w holes)
 IsNamed f number (Berth v w clear) = IsRule f number (rules.After v w clear)
 IsNamed f number (After v w gap) = IsRule f number (rules.After v w gap)
-IsNamed f number (Tugs fleet) = (jobs : List Job) × IsRule f number (rules.Tugs fleet later jobs)
+IsNamed f number (Tugs fleet) = (jobs : List Job) × IsRule f number (rules.Tugs fleet [] jobs)
