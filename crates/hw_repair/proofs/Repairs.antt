@@ -48,6 +48,7 @@ repaired_fits f plan flat writable fits = record {
       none_else (λ n. n ≤ 1_000_000_000_000) (slice_get plan.wishes ship) _ (omega arith) (λ w. repaired_small f.ships w slot (value_at f ship slot) (value_repairable f plan ship slot flat.few_ships fits)));
   few_rules = (lessened_fits f plan.withdrawn flat).few_rules;
   each_rule = (lessened_fits f plan.withdrawn flat).each_rule;
+  steps_sail = (lessened_fits f plan.withdrawn flat).steps_sail;
 }
 
 -- ---- what is permitted

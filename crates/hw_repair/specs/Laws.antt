@@ -1,7 +1,7 @@
 -- The laws of a plan's repair.
 use Rattle.std.specs.Prelude.{◌≡◌, ◌↔◌, ℕ, ◌+◌, ◌-◌, ◌*◌, ◌<◌, ◌≤◌, List, length, true, Some, Ok, slice_get}
 use Rattle.std.specs.List.{list_all}
-use Rattle.hw_model.specs.declared.limits.TheConstants.{MOST_FLEET}
+use Rattle.hw_model.specs.declared.limits.TheConstants.{MOST_PLAIN_FLEET}
 use Rattle.hw_model.specs.Problem.{Problem, value_at}
 use Rattle.hw_model.specs.Limits.{IsFlat}
 use Rattle.hw_model.specs.Timetables.{Permits, cargo, IsBest, NonePermitted}
@@ -45,9 +45,9 @@ pub record BestBoth (f : Problem) (plan : PlanParts) (table : List ℕ) : Type 0
 abbrev pub BestRepair : Type 0
 BestRepair = (f : Problem) (plan : PlanParts) (table : List ℕ) → PlanFits f plan → BestBoth f plan table
 
--- a plan that fits, with no more tugs withdrawn than each rule on tugs has, and no more than 1000, is what its written text says
+-- a plan that fits, with no more tugs withdrawn than each rule on tugs has in some slot, and no more than 1000, is what its written text says
 abbrev pub WrittenReads : Type 0
-WrittenReads = (f : Problem) (plan : PlanParts) → IsFlat f → PlanFits f plan → plan.withdrawn ≤ MOST_FLEET → list_all (rule_has_tugs plan.withdrawn) f.rules ≡ true → plan_text f (written_plan plan) ≡ Ok plan
+WrittenReads = (f : Problem) (plan : PlanParts) → IsFlat f → PlanFits f plan → plan.withdrawn ≤ MOST_PLAIN_FLEET → list_all (rule_has_tugs plan.withdrawn) f.rules ≡ true → plan_text f (written_plan plan) ≡ Ok plan
 
 -- none is permitted by the repair's problem exactly where none meets the plan
 abbrev pub NoneRepair : Type 0

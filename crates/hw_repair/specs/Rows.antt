@@ -17,7 +17,11 @@ too_worthy = record { ships = 2; slots = 3; stay = false; values = Some 500_000_
 
 -- two ships that hold one of two tugs each
 abbrev pub two_tugs : Problem
-two_tugs = record { ships = 2; slots = 2; stay = false; values = Some 10 ∷ Some 20 ∷ Some 10 ∷ Some 20 ∷ []; rules = Tugs 2 (record { ship = 0; tugs = 1; hold = 1 } ∷ record { ship = 1; tugs = 1; hold = 1 } ∷ []) ∷ [] }
+two_tugs = record { ships = 2; slots = 2; stay = false; values = Some 10 ∷ Some 20 ∷ Some 10 ∷ Some 20 ∷ []; rules = Tugs 2 [] (record { ship = 0; tugs = 1; hold = 1 } ∷ record { ship = 1; tugs = 1; hold = 1 } ∷ []) ∷ [] }
+
+-- the same with one tug in the first slot and two from the second one on
+abbrev pub tugs_come : Problem
+tugs_come = record two_tugs { rules = Tugs 1 (record { from = 1; fleet = 2 } ∷ []) (record { ship = 0; tugs = 1; hold = 1 } ∷ record { ship = 1; tugs = 1; hold = 1 } ∷ []) ∷ [] }
 
 -- a plan by which no tug is withdrawn
 abbrev pub by : List Wish → PlanParts
@@ -30,7 +34,8 @@ pub record RepairRows : Type 0 where
   pub sailed_between : (repaired two_apart (by (Kept 1 ∷ Planned 2 0 ∷ []))).values ≡ None ∷ Some 61 ∷ None ∷ Some 30 ∷ Some 60 ∷ Some 91 ∷ []
   pub delayed : (repaired two_apart (by (Planned 0 1 ∷ Planned 2 1 ∷ []))).values ≡ None ∷ Some 60 ∷ Some 90 ∷ None ∷ Some 60 ∷ Some 91 ∷ []
   pub wishes_to_stay : (repaired one_stays (by (Planned 0 0 ∷ Planned 3 1 ∷ []))).values ≡ Some 31 ∷ Some 60 ∷ Some 90 ∷ None ∷ None ∷ Some 60 ∷ Some 90 ∷ Some 1 ∷ []
-  pub tugs_left : (repaired two_tugs (record { withdrawn = 1; wishes = Planned 1 0 ∷ Planned 1 0 ∷ [] })).rules ≡ Tugs 1 (record { ship = 0; tugs = 1; hold = 1 } ∷ record { ship = 1; tugs = 1; hold = 1 } ∷ []) ∷ []
+  pub tugs_left : (repaired two_tugs (record { withdrawn = 1; wishes = Planned 1 0 ∷ Planned 1 0 ∷ [] })).rules ≡ Tugs 1 [] (record { ship = 0; tugs = 1; hold = 1 } ∷ record { ship = 1; tugs = 1; hold = 1 } ∷ []) ∷ []
+  pub fewer_in_each_slot : (repaired tugs_come (record { withdrawn = 2; wishes = Planned 1 0 ∷ Planned 1 0 ∷ [] })).rules ≡ Tugs 0 (record { from = 1; fleet = 0 } ∷ []) (record { ship = 0; tugs = 1; hold = 1 } ∷ record { ship = 1; tugs = 1; hold = 1 } ∷ []) ∷ []
   pub none_moved : moved (by (Planned 0 0 ∷ Planned 2 0 ∷ [])) (0 ∷ 2 ∷ []) ≡ 0
   pub one_moved : moved (by (Kept 2 ∷ Planned 2 0 ∷ [])) (2 ∷ 0 ∷ []) ≡ 1
 
@@ -48,6 +53,8 @@ pub record PlanRows : Type 0 where
   pub a_tug_withdrawn : plan_text two_tugs (codes "plan 2\nw 1\nk 1\no 1 0\nend\n") ≡ Ok (record { withdrawn = 1; wishes = Kept 1 ∷ Planned 1 0 ∷ [] })
   pub all_withdrawn : plan_text two_tugs (codes "plan 2\nw 2\nk 1\no 1 0\nend\n") ≡ Ok (record { withdrawn = 2; wishes = Kept 1 ∷ Planned 1 0 ∷ [] })
   pub more_than_the_fleet : plan_text two_tugs (codes "plan 2\nw 3\nk 1\no 1 0\nend\n") ≡ Err (record { number = 2; word = words.Fleet })
+  pub as_many_as_in_some_slot : plan_text tugs_come (codes "plan 2\nw 2\nk 1\no 1 0\nend\n") ≡ Ok (record { withdrawn = 2; wishes = Kept 1 ∷ Planned 1 0 ∷ [] })
+  pub more_than_in_any_slot : plan_text tugs_come (codes "plan 2\nw 3\nk 1\no 1 0\nend\n") ≡ Err (record { number = 2; word = words.Fleet })
   pub none_withdrawn : plan_text two_tugs (codes "plan 2\nw 0\nk 1\no 1 0\nend\n") ≡ Err (record { number = 2; word = words.Fleet })
   pub ships_first : plan_text two_tugs (codes "plan 2\nk 1\no 1 0\nend\n") ≡ Err (record { number = 2; word = words.Fleet })
   pub wish_later : plan_text two_tugs (codes "plan 2\nw 1\nk 2\no 1 0\nend\n") ≡ Err (record { number = 3; word = words.Ship })

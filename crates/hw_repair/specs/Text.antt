@@ -1,8 +1,8 @@
 -- The text of a plan, over the list of its lines.
-use Rattle.std.specs.Prelude.{ℕ, zero, suc, ◌+◌, ◌*◌, Bool, true, List, [], ◌∷◌, Option, Some, None, option_and_then, Result, Ok, codes, bytes_eq, nat_lt, nat_le, unwrap_or, if◌then◌else◌}
+use Rattle.std.specs.Prelude.{ℕ, zero, suc, ◌+◌, ◌*◌, Bool, true, ◌||◌, List, [], ◌∷◌, Option, Some, None, option_and_then, Result, Ok, codes, bytes_eq, nat_lt, nat_le, unwrap_or, if◌then◌else◌}
 use Rattle.std.specs.List.{list_all, list_any, range_with_len}
 use Rattle.hw_lemmas.specs.Operators.{◌>>=◌}
-use Rattle.hw_model.specs.declared.limits.TheConstants.{MOST_VALUE, MOST_FLEET}
+use Rattle.hw_model.specs.declared.limits.TheConstants.{MOST_VALUE, MOST_PLAIN_FLEET}
 use Rattle.hw_model.specs.declared.rule.Rule.{Rule}
 use Rattle.hw_model.specs.declared.rule.Rule.TheVariants.{Tugs}
 use Rattle.hw_model.specs.Problem.{Problem, value_at}
@@ -50,19 +50,19 @@ wish_form slots line = wish_words slots (words_of line)
 abbrev pub is_large : Problem → ℕ → Bool
 is_large f ship = list_any (λ slot. nat_lt MOST_VALUE (unwrap_or (value_at f ship slot) 0 * (f.ships + 1) + 1)) (range_with_len 0 f.slots)
 
--- a rule on tugs has this many
+-- a rule on tugs has this many in some slot
 abbrev pub rule_has_tugs : ℕ → Rule → Bool
-rule_has_tugs withdrawn (Tugs fleet later jobs) = nat_le withdrawn fleet
+rule_has_tugs withdrawn (Tugs fleet later jobs) = nat_le withdrawn fleet || list_any (λ step. nat_le withdrawn step.fleet) later
 rule_has_tugs withdrawn rule = true
 
 abbrev pub within_fleet : List Rule → ℕ → Option ℕ
 within_fleet rules withdrawn = if list_all (rule_has_tugs withdrawn) rules then Some withdrawn else None
 
 abbrev pub withdrawn_words : List Rule → List (List ℕ) → Option ℕ
-withdrawn_words rules (key ∷ count ∷ []) = if bytes_eq key (codes "w") then option_and_then (within_fleet rules) (number_from_to 1 MOST_FLEET count) else None
+withdrawn_words rules (key ∷ count ∷ []) = if bytes_eq key (codes "w") then option_and_then (within_fleet rules) (number_from_to 1 MOST_PLAIN_FLEET count) else None
 withdrawn_words rules _ = None
 
--- `w COUNT`: a tug or more is withdrawn, no more than each rule on tugs has
+-- `w COUNT`: a tug or more is withdrawn, no more than each rule on tugs has in some slot
 abbrev pub withdrawn_form : List Rule → List ℕ → Option ℕ
 withdrawn_form rules line = withdrawn_words rules (words_of line)
 

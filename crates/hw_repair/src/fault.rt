@@ -10,7 +10,7 @@ use hw_plan_texts::LineFault;
 pub enum PlanWord {
     /// The first line, `plan 1` or `plan 2`.
     Header,
-    /// The second line of `plan 2`: tugs withdrawn, no more than there are.
+    /// The second line of `plan 2`: tugs withdrawn, no more than there are in some slot.
     Fleet,
     /// The wish of a ship.
     Ship,

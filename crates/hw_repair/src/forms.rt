@@ -1,12 +1,12 @@
 //! The forms of a plan's lines.
 
-ghost use Rattle.std.specs.Prelude.{◌≡◌, ◌<◌};
-ghost use Rattle.std.specs.List.{list_all};
+ghost use Rattle.std.specs.Prelude.{◌≡◌, ◌<◌, nat_le};
+ghost use Rattle.std.specs.List.{list_all, list_any};
 ghost use Rattle.hw_repair.specs.Text.{kept_words, planned_words, wish_form, rule_has_tugs, withdrawn_form, is_large};
 
 use crate::plan::Wish;
 use hw_flat::Flat;
-use hw_model::{MOST_FLEET, MOST_VALUE, Rule, ShipId};
+use hw_model::{MOST_PLAIN_FLEET, MOST_VALUE, Rule, ShipId, Step};
 use hw_plan_texts::slot_of;
 use hw_text::{Words, is_text, read_small};
 
@@ -47,14 +47,30 @@ pub fn wish_of(line: &[u8], slots: u32) -> Option<Wish>
     }
 }
 
-/// Whether each rule on tugs has this many.
+/// Whether some step has this many tugs.
+fn step_has_tugs(later: &[Step], withdrawn: u32) -> bool
+    ensures { result ≡ list_any (λ step. nat_le withdrawn step.fleet) later.now }
+{
+    later.iter().any(|step| withdrawn <= step.fleet)
+}
+
+/// Whether a rule on tugs has this many in some slot.
+fn has_tugs(rule: &Rule, withdrawn: u32) -> bool
+    ensures { result ≡ rule_has_tugs withdrawn rule.now }
+{
+    match rule {
+        Rule::Tugs { fleet, later, .. } => {
+            withdrawn <= *fleet || step_has_tugs(&later.items, withdrawn)
+        }
+        _ => true,
+    }
+}
+
+/// Whether each rule on tugs has this many in some slot.
 fn have_tugs(rules: &[Rule], withdrawn: u32) -> bool
     ensures { result ≡ list_all (rule_has_tugs withdrawn) rules.now }
 {
-    rules.iter().all(|rule| match rule {
-        Rule::Tugs { fleet, .. } => withdrawn <= *fleet,
-        _ => true,
-    })
+    rules.iter().all(|rule| has_tugs(rule, withdrawn))
 }
 
 /// `w COUNT`, of tugs that are withdrawn.
@@ -68,7 +84,7 @@ pub fn withdrawn_of(line: &[u8], rules: &[Rule]) -> Option<u32>
     if !is_text(key, b"w") {
         return None;
     }
-    let withdrawn = read_small(count, 1, MOST_FLEET)?;
+    let withdrawn = read_small(count, 1, MOST_PLAIN_FLEET)?;
     if have_tugs(rules, withdrawn) {
         Some(withdrawn)
     } else {
