@@ -181,8 +181,8 @@ def line_drawn(r, problem, lines, checker):
 
 
 def flat_drawn(r):
-    ships, slots, stay = r.randrange(1, 6), r.choice([1, 2, 3, 4, 6, 9]), r.randrange(2)
-    lines = [f"flat {1 + stay}", f"size {ships} {slots}"]
+    ships, slots, stay, hours = r.randrange(1, 6), r.choice([1, 2, 3, 4, 6, 9]), r.randrange(2), r.randrange(3) == 0
+    lines = [f"size {ships} {slots}"]
     for _ in range(ships):
         row = ["-" if r.randrange(5) == 0 else str(r.randrange(30)) for _ in range(slots)]
         lines.append(" ".join(["v", *row, *[r.choice("yn")] * stay]))
@@ -195,8 +195,11 @@ def flat_drawn(r):
             lines.append(f"s {v} {w} {r.randrange(slots + 2)}")
         elif kind == "u":
             jobs = [f"{ship}:{r.randrange(1, 4)}:{r.randrange(1, slots + 2)}" for ship in range(ships) if r.randrange(4)]
-            lines += [f"u {r.randrange(1, 7)} " + " ".join(jobs)] * bool(jobs)
-    return "\n".join([*lines, "end", ""])
+            steps = [f"{first}:{r.randrange(7)}" for first in range(1, slots) if hours and r.randrange(3) == 0]
+            fleet = r.choice([1000, 1001, 2560]) if hours and r.randrange(9) == 0 else r.randrange(0 if steps else 1, 7)
+            lines += [" ".join([f"{'h' if steps else 'u'} {fleet}", *steps, *jobs])] * bool(jobs)
+    hourly = any(line.startswith("h") or line.startswith("u") and int(line.split(" ")[1]) > 1000 for line in lines)
+    return "\n".join([f"flat {1 + stay + 2 * hourly}", *lines, "end", ""])
 
 
 def closed_drawn(r, slots):

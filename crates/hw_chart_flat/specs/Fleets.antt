@@ -1,9 +1,11 @@
 -- The fleets of tugs that a picture shows: the first eight rules on tugs.
-use Rattle.std.specs.Prelude.{ℕ, ◌+◌, max, Bool, true, false, nat_lt, if◌then◌else◌, List, [], ◌∷◌, Option, Some, None, slice_index, take, drop, filter}
+use Rattle.std.specs.Prelude.{ℕ, ◌+◌, max, min, Bool, true, false, nat_lt, if◌then◌else◌, List, [], ◌∷◌, Option, Some, None, slice_index, take, drop, filter, length}
 use Rattle.hw_model.specs.declared.rule.Job.{Job}
 use Rattle.hw_model.specs.declared.rule.Rule.{Rule}
 use Rattle.hw_model.specs.declared.rule.Rule.TheVariants.{Pair, After, Tugs}
+use Rattle.hw_model.specs.declared.rule.Step.{Step}
 use Rattle.hw_model.specs.Problem.{Problem, horizon}
+use Rattle.hw_model.specs.Rules.{fleet_in}
 use Rattle.hw_chart_flat.specs.declared.fleets.Fleets.{Fleets}
 
 -- a rule on tugs
@@ -12,11 +14,34 @@ is_fleet (Pair v w holes) = false
 is_fleet (After v w gap) = false
 is_fleet (Tugs fleet later jobs) = true
 
--- the tugs that a rule's fleet has
+-- the tugs with which a rule's fleet begins
 abbrev pub fleet_of : Rule → ℕ
 fleet_of (Pair v w holes) = 0
 fleet_of (After v w gap) = 0
 fleet_of (Tugs fleet later jobs) = fleet
+
+-- the steps that follow
+abbrev pub steps_of : Rule → List Step
+steps_of (Pair v w holes) = []
+steps_of (After v w gap) = []
+steps_of (Tugs fleet later jobs) = later
+
+-- the fleet hasn't one number of tugs for all slots
+abbrev pub has_hours : Rule → Bool
+has_hours rule = nat_lt 0 (length (steps_of rule))
+
+-- the tugs that a rule's fleet has in a slot
+abbrev pub fleet_at : Rule → ℕ → ℕ
+fleet_at rule slot = fleet_in (fleet_of rule) (steps_of rule) slot
+
+-- the greatest and the least number of tugs of a fleet that begins so and has these steps
+abbrev pub greatest_fleet : ℕ → List Step → ℕ
+greatest_fleet fleet [] = fleet
+greatest_fleet fleet (step ∷ later) = max fleet (greatest_fleet step.fleet later)
+
+abbrev pub least_fleet : ℕ → List Step → ℕ
+least_fleet fleet [] = fleet
+least_fleet fleet (step ∷ later) = min fleet (least_fleet step.fleet later)
 
 abbrev pub jobs_of_rule : Rule → List Job
 jobs_of_rule (Pair v w holes) = []

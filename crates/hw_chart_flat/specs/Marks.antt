@@ -5,10 +5,10 @@ use Rattle.hw_model.specs.declared.rule.Rule.{Rule}
 use Rattle.hw_model.specs.declared.rule.Rule.TheVariants.{Pair, After, Tugs}
 use Rattle.hw_model.specs.Problem.{Problem, horizon}
 use Rattle.hw_model.specs.Rules.{busy}
-use Rattle.hw_chart.specs.Figures.{is_reached, is_top_touched}
+use Rattle.hw_chart.specs.Figures.{is_met, is_top_touched}
 use Rattle.hw_chart_flat.specs.declared.marks.FlatMark.{FlatMark}
 use Rattle.hw_chart_flat.specs.declared.marks.FlatMark.TheVariants.{HasValue, HasMost, CouldMove, Sails, HoldsTugs, MustWait, WholeFleet}
-use Rattle.hw_chart_flat.specs.Fleets.{fleet_of, fleets, jobs_of_rule}
+use Rattle.hw_chart_flat.specs.Fleets.{fleet_at, fleets, jobs_of_rule}
 use Rattle.hw_chart_flat.specs.Moves.{flat_open_level}
 use Rattle.hw_chart_flat.specs.Values.{sails_nowhere}
 
@@ -36,7 +36,7 @@ awaits_first slots table (Tugs fleet later jobs) = false
 
 -- a fleet is held whole in some slot
 abbrev pub is_held_whole : ℕ → List ℕ → Rule → Bool
-is_held_whole slots table rule = is_reached (busy rule table) (fleet_of rule) slots
+is_held_whole slots table rule = is_met (busy rule table) (fleet_at rule) slots
 
 -- the picture of a timetable has this mark
 abbrev pub planned_has : Problem → List ℕ → FlatMark → Bool

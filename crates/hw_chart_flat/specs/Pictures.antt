@@ -1,5 +1,5 @@
 -- The picture of a flat problem, with a timetable or without one.
-use Rattle.std.specs.Prelude.{ℕ, ◌+◌, ◌*◌, List, [], ◌∷◌, ◌++◌, codes, decimal, length, Option, Some, None}
+use Rattle.std.specs.Prelude.{ℕ, ◌+◌, ◌*◌, List, [], ◌∷◌, ◌++◌, codes, decimal, if◌then◌else◌, length, Option, Some, None}
 use Rattle.hw_model.specs.declared.rule.Rule.{Rule}
 use Rattle.hw_model.specs.Problem.{Problem, horizon}
 use Rattle.hw_model.specs.Rules.{busy}
@@ -12,8 +12,9 @@ use Rattle.hw_chart.specs.declared.outcome.Outcome.{Outcome}
 use Rattle.hw_chart.specs.declared.panel.Panel.{Panel}
 use Rattle.hw_chart.specs.Grids.{grid, span_end}
 use Rattle.hw_chart.specs.Headings.{heading}
+use Rattle.hw_chart.specs.Hours.{planned_hours, unplanned_hours}
 use Rattle.hw_chart.specs.Panels.{planned_panel, unplanned_panel}
-use Rattle.hw_chart_flat.specs.Fleets.{fleet_of, fleets, picture_span}
+use Rattle.hw_chart_flat.specs.Fleets.{fleet_at, fleet_of, fleets, greatest_fleet, has_hours, least_fleet, picture_span, steps_of}
 use Rattle.hw_chart_flat.specs.Legends.{flat_legend}
 use Rattle.hw_chart_flat.specs.Rows.{planned_rows, unplanned_rows}
 
@@ -35,18 +36,30 @@ flat_head f table outcome = heading Plain outcome (flat_picture_bottom f + 28) (
 unfoldable pub flat_columns : List ℕ
 flat_columns = line (codes "m r") 956 138 (codes "slot") ++ line (codes "m r") 1268 138 (codes "value")
 
--- a panel for the fleet of a rule
+-- a panel for the fleet of a rule, as high as the greatest number of its tugs
 abbrev pub flat_panel_of : Problem → ℕ → ℕ → Rule → Panel
-flat_panel_of f span y rule = record { y = y; fleet = fleet_of rule; slots = horizon f; span = span }
+flat_panel_of f span y rule = record { y = y; fleet = greatest_fleet (fleet_of rule) (steps_of rule); slots = horizon f; span = span }
+
+-- what there is of a fleet, by the hour where it has steps
+abbrev pub unplanned_fleet : Problem → ℕ → ℕ → Rule → List ℕ
+unplanned_fleet f span y rule =
+    if has_hours rule then unplanned_hours (flat_panel_of f span y rule) (least_fleet (fleet_of rule) (steps_of rule)) (fleet_at rule)
+    else unplanned_panel (flat_panel_of f span y rule)
+
+-- and beside it the tugs that a timetable holds in each slot
+abbrev pub planned_fleet : Problem → List ℕ → ℕ → ℕ → Rule → List ℕ
+planned_fleet f table span y rule =
+    if has_hours rule then planned_hours (flat_panel_of f span y rule) (least_fleet (fleet_of rule) (steps_of rule)) (fleet_at rule) (busy rule table)
+    else planned_panel (flat_panel_of f span y rule) (busy rule table)
 
 abbrev pub unplanned_panels : Problem → ℕ → ℕ → List Rule → List ℕ
 unplanned_panels f span y [] = []
-unplanned_panels f span y (rule ∷ rules) = unplanned_panel (flat_panel_of f span y rule) ++ unplanned_panels f span (y + 66) rules
+unplanned_panels f span y (rule ∷ rules) = unplanned_fleet f span y rule ++ unplanned_panels f span (y + 66) rules
 
 -- the tugs that each fleet holds in each slot
 abbrev pub planned_panels : Problem → List ℕ → ℕ → ℕ → List Rule → List ℕ
 planned_panels f table span y [] = []
-planned_panels f table span y (rule ∷ rules) = planned_panel (flat_panel_of f span y rule) (busy rule table) ++ planned_panels f table span (y + 66) rules
+planned_panels f table span y (rule ∷ rules) = planned_fleet f table span y rule ++ planned_panels f table span (y + 66) rules
 
 unfoldable pub flat_foot : Problem → ℕ → List ℕ
 flat_foot f span = joined (grid Slots span (flat_picture_bottom f) ∷ span_end (horizon f) span (flat_picture_bottom f) ∷ svg_end ∷ [])

@@ -2,10 +2,10 @@
 
 ghost use Rattle.std.specs.Prelude.{◌≡◌, ◌≤◌, ◌<◌, ℕ, [], ◌∷◌, All, IfSome, IsNone, length};
 ghost use Rattle.hw_model.specs.Limits.{RuleFits};
-ghost use Rattle.hw_chart_flat.specs.Fleets.{fleet_of, fleets, fleets_in, is_fleet, jobs_of_rule};
+ghost use Rattle.hw_chart_flat.specs.Fleets.{fleet_of, fleets, fleets_in, greatest_fleet, is_fleet, jobs_of_rule, least_fleet, steps_of};
 
 use hw_flat::Flat;
-use hw_model::{Job, Rule};
+use hw_model::{Job, Rule, Step};
 
 /// Rules, the place from which they are read, and how many of their fleets a picture still shows.
 #[derive(Clone, Copy)]
@@ -79,13 +79,43 @@ pub(crate) fn count(fleets: Fleets) -> u32
     }
 }
 
-/// The tugs of a rule's fleet.
+/// The tugs with which a rule's fleet begins.
 pub(crate) fn fleet_size(rule: &Rule) -> u32
     ensures { result ≡ fleet_of rule.now }
 {
     match rule {
         Rule::Pair { .. } | Rule::After { .. } => 0,
         Rule::Tugs { fleet, .. } => *fleet,
+    }
+}
+
+/// The steps that follow.
+pub(crate) fn steps(rule: &Rule) -> &[Step]
+    ensures { result.now ≡ steps_of rule.now }
+{
+    match rule {
+        Rule::Pair { .. } | Rule::After { .. } => &[],
+        Rule::Tugs { later, .. } => &later.items,
+    }
+}
+
+/// The greatest number of tugs of a fleet that begins so and has these steps.
+pub(crate) fn greatest_fleet(fleet: u32, later: &[Step]) -> u32
+    ensures { result ≡ greatest_fleet fleet later.now }
+{
+    match later {
+        [] => fleet,
+        [step, more @ ..] => fleet.max(greatest_fleet(step.fleet, more)),
+    }
+}
+
+/// And the least one.
+pub(crate) fn least_fleet(fleet: u32, later: &[Step]) -> u32
+    ensures { result ≡ least_fleet fleet later.now }
+{
+    match later {
+        [] => fleet,
+        [step, more @ ..] => fleet.min(least_fleet(step.fleet, more)),
     }
 }
 

@@ -3,18 +3,20 @@
 ghost use Rattle.std.specs.Prelude.{◌≡◌, ◌+◌, ◌*◌, ◌^◌, ◌≤◌, ◌<◌, All, length};
 ghost use Rattle.hw_model.specs.Limits.{RuleFits};
 ghost use Rattle.hw_model.specs.Problem.{IsTimetable};
-ghost use Rattle.hw_model.specs.Rules.{busy};
+ghost use Rattle.hw_model.specs.Rules.{busy, fleet_in};
 ghost use Rattle.hw_desk.specs.Writers.{Puts};
 ghost use Rattle.hw_chart_flat.specs.Fleets.{fleets_in};
 ghost use Rattle.hw_chart_flat.specs.Marks.{is_held_whole};
-ghost use Rattle.hw_chart_flat.specs.Pictures.{flat_panel_of, planned_panels, unplanned_panels};
+ghost use Rattle.hw_chart_flat.specs.Pictures.{flat_panel_of, planned_fleet, planned_panels, unplanned_fleet, unplanned_panels};
 
-use crate::fleets::{Fleets, fleet_size, next};
-use hw_chart::{Panel, put_planned_panel, put_unplanned_panel, reaches};
+use crate::fleets::{Fleets, fleet_size, greatest_fleet, least_fleet, next, steps};
+use hw_chart::{
+    Panel, meets, put_planned_hours, put_planned_panel, put_unplanned_hours, put_unplanned_panel,
+};
 use hw_chart_svg::Levels;
 use hw_desk::Writer;
 use hw_flat::{Flat, Timetable};
-use hw_model::Rule;
+use hw_model::{Rule, Step, fleet_in};
 use hw_rules::busy;
 
 /// The tugs that a fleet holds in each slot.
@@ -35,15 +37,71 @@ impl Levels for Held<'_> {
     }
 }
 
+/// The tugs that there are in each slot.
+#[derive(Drop)]
+struct Hours<'h> {
+    fleet: u32,
+    later: &'h [Step],
+}
+
+impl Levels for Hours<'_> {
+    ghost level = { λ h. fleet_in h.fleet h.later.now };
+
+    ghost end = { λ h. 2 ^ 32 };
+
+    fn level(&self, slot: u32) -> u64 {
+        u64::from(fleet_in(self.fleet, self.later, slot))
+    }
+}
+
 /// The panel of a fleet.
 fn panel(flat: &Flat, span: u32, y: u32, rule: &Rule) -> Panel
     ensures { result ≡ flat_panel_of flat.now span y rule.now }
 {
     Panel {
         y,
-        fleet: u64::from(fleet_size(rule)),
+        fleet: u64::from(greatest_fleet(fleet_size(rule), steps(rule))),
         slots: flat.horizon(),
         span,
+    }
+}
+
+/// Puts the panel of a fleet where there is no timetable.
+fn put_unplanned_fleet<W: Writer>(out: &mut W, flat: &Flat, span: u32, y: u32, rule: &Rule)
+    ensures { Puts (unplanned_fleet flat.now span y rule.now) (W.state out.old) (W.state out.new) }
+{
+    let fleet = fleet_size(rule);
+    let later = steps(rule);
+    let panel = panel(flat, span, y, rule);
+    if later.is_empty() {
+        put_unplanned_panel(out, panel);
+    } else {
+        let least = u64::from(least_fleet(fleet, later));
+        put_unplanned_hours(out, panel, least, &Hours { fleet, later });
+    }
+}
+
+/// Puts the panel of a fleet with the tugs that it holds in each slot.
+fn put_planned_fleet<W: Writer>(
+    out: &mut W,
+    flat: &Flat,
+    table: &Timetable,
+    span: u32,
+    y: u32,
+    rule: &Rule,
+)
+    requires { RuleFits (length table.now) rule.now }
+    ensures { Puts (planned_fleet flat.now table.now span y rule.now) (W.state out.old) (W.state out.new) }
+{
+    let fleet = fleet_size(rule);
+    let later = steps(rule);
+    let panel = panel(flat, span, y, rule);
+    let held = Held { rule, table };
+    if later.is_empty() {
+        put_planned_panel(out, panel, &held);
+    } else {
+        let least = u64::from(least_fleet(fleet, later));
+        put_planned_hours(out, panel, least, &Hours { fleet, later }, &held);
     }
 }
 
@@ -59,7 +117,7 @@ pub(crate) fn put_unplanned_panels<W: Writer>(
     ensures { Puts (unplanned_panels flat.now span y (fleets_in fleets.entry)) (W.state out.old) (W.state out.new) }
 {
     if let Some(found) = next(fleets) {
-        put_unplanned_panel(out, panel(flat, span, y, found.rule));
+        put_unplanned_fleet(out, flat, span, y, found.rule);
         put_unplanned_panels(out, flat, span, y + 66, found.rest);
     }
 }
@@ -78,9 +136,7 @@ pub(crate) fn put_planned_panels<W: Writer>(
     ensures { Puts (planned_panels flat.now table.now span y (fleets_in fleets.entry)) (W.state out.old) (W.state out.new) }
 {
     if let Some(found) = next(fleets) {
-        let rule = found.rule;
-        let held = Held { rule, table };
-        put_planned_panel(out, panel(flat, span, y, rule), &held);
+        put_planned_fleet(out, flat, table, span, y, found.rule);
         put_planned_panels(out, flat, table, span, y + 66, found.rest);
     }
 }
@@ -91,5 +147,9 @@ pub(crate) fn is_held_whole(slots: u32, table: &Timetable, rule: &Rule) -> bool
     ensures { result ≡ is_held_whole slots table.now rule.now }
 {
     let held = Held { rule, table };
-    reaches(&held, u64::from(fleet_size(rule)), slots)
+    let hours = Hours {
+        fleet: fleet_size(rule),
+        later: steps(rule),
+    };
+    meets(&held, &hours, slots)
 }

@@ -1,5 +1,6 @@
 -- The parts of a flat problem's picture, made of what a picture is written with.
 use Rattle.std.proofs.Common.{◌++◌, ◌+◌, ◌-◌, ℕ, nat_eq, nat_lt, Option, List, [], ◌∷◌, slice_index, codes, refl}
+use Rattle.std.proofs.lemmas.Bool.{cond_both}
 use Rattle.hw_model.specs.declared.rule.Job.{Job}
 use Rattle.hw_model.specs.declared.rule.Rule.{Rule}
 use Rattle.hw_model.specs.declared.rule.Rule.TheVariants.{Pair, After, Tugs}
@@ -12,19 +13,19 @@ use Rattle.hw_chart.specs.Layout.{plot, stripe}
 use Rattle.hw_chart.specs.Legends.{legend_begin}
 use Rattle.hw_chart.specs.Rows.{moves_window}
 use Rattle.hw_chart_flat.specs.declared.row.Row.{Row}
-use Rattle.hw_chart_flat.specs.Fleets.{fleets, jobs_of_rule}
+use Rattle.hw_chart_flat.specs.Fleets.{fleet_at, fleets, has_hours, jobs_of_rule}
 use Rattle.hw_chart_flat.specs.declared.marks.FlatMark.{FlatMark}
 use Rattle.hw_chart_flat.specs.declared.marks.FlatMark.TheVariants as marks
 use Rattle.hw_chart_flat.specs.Legends.{all_flat_marks, flat_entries, flat_entry, flat_legend}
 use Rattle.hw_chart_flat.specs.Moves.{flat_open_level}
-use Rattle.hw_chart_flat.specs.Pictures.{flat_columns, flat_panel_of, planned_panels, flat_picture_sizes, unplanned_panels}
+use Rattle.hw_chart_flat.specs.Pictures.{flat_columns, flat_panel_of, planned_fleet, planned_panels, flat_picture_sizes, unplanned_fleet, unplanned_panels}
 use Rattle.hw_chart_flat.specs.Rows.{flat_bars, course_parts, course_text, flat_figures, fleet_bars, job_bars, nowhere_text, flat_row_label, row_top, value_mark, value_window, values_text, wait_bar, flat_wait_bars}
 use Rattle.hw_chart_flat.specs.Values.{cargo_in_slot, most_carried, most_level, sails_nowhere, tall_of, value_level}
 use Rattle.hw_chart_laws.proofs.Legends.{AreSound, IsSound, of_legend_from}
 use Rattle.hw_chart_laws.proofs.Plain.{letters}
 use Rattle.hw_chart_laws.proofs.Spelled.{Spelled, also, fixed, of_number, nothing}
 use Rattle.hw_chart_laws.proofs.Writing.{Tags, Writing, group}
-use Rattle.hw_chart_laws.proofs.Shared.{figure, four, if_so, of_bar, of_mark, of_moves, of_no_slot, of_pin, of_planned, of_sailings, of_stays, of_stripe, of_unplanned, says, three}
+use Rattle.hw_chart_laws.proofs.Shared.{figure, four, if_so, of_bar, of_mark, of_moves, of_no_slot, of_pin, of_planned, of_planned_hours, of_sailings, of_stays, of_stripe, of_unplanned, of_unplanned_hours, says, three}
 
 pub spelled_sizes : (f : Problem) → Spelled (flat_picture_sizes f)
 unfolding flat_picture_sizes
@@ -109,10 +110,16 @@ module _ {P : Tags → List ℕ → Tags → Type 0} (w : Writing P) where
   pub of_unplanned_rest : {a : Tags} (f : Problem) (row : Row) → P (group ∷ a) (stripe row.rank (row_top row) ++ (flat_row_label f row ++ (values_text f row ++ (nowhere_text f row ++ group_end)))) a
   of_unplanned_rest f row = w.onward (of_stripe w row.rank (row_top row)) (w.onward (of_row_label f row) (w.onward (of_values f row) (w.onward (if_so w (sails_nowhere f row.ship) (of_no_slot w (row_top row))) w.finished)))
 
+  of_unplanned_fleet : {a : Tags} (f : Problem) (span y : ℕ) (rule : Rule) → P a (unplanned_fleet f span y rule) a
+  of_unplanned_fleet {a = a} f span y rule = cond_both (has_hours rule) _ _ (λ (t : List ℕ). P a t a) (λ e. of_unplanned_hours w (flat_panel_of f span y rule) _ (fleet_at rule)) (λ e. of_unplanned w (flat_panel_of f span y rule))
+
+  of_planned_fleet : {a : Tags} (f : Problem) (table : List ℕ) (span y : ℕ) (rule : Rule) → P a (planned_fleet f table span y rule) a
+  of_planned_fleet {a = a} f table span y rule = cond_both (has_hours rule) _ _ (λ (t : List ℕ). P a t a) (λ e. of_planned_hours w (flat_panel_of f span y rule) _ (fleet_at rule) (busy rule table)) (λ e. of_planned w (flat_panel_of f span y rule) (busy rule table))
+
   pub of_unplanned_panels : {a : Tags} (f : Problem) (span y : ℕ) (rules : List Rule) → P a (unplanned_panels f span y rules) a
   of_unplanned_panels f span y [] = w.none
-  of_unplanned_panels f span y (rule ∷ rules) = w.onward (of_unplanned w (flat_panel_of f span y rule)) (of_unplanned_panels f span (y + 66) rules)
+  of_unplanned_panels f span y (rule ∷ rules) = w.onward (of_unplanned_fleet f span y rule) (of_unplanned_panels f span (y + 66) rules)
 
   pub of_planned_panels : {a : Tags} (f : Problem) (table : List ℕ) (span y : ℕ) (rules : List Rule) → P a (planned_panels f table span y rules) a
   of_planned_panels f table span y [] = w.none
-  of_planned_panels f table span y (rule ∷ rules) = w.onward (of_planned w (flat_panel_of f span y rule) (busy rule table)) (of_planned_panels f table span (y + 66) rules)
+  of_planned_panels f table span y (rule ∷ rules) = w.onward (of_planned_fleet f table span y rule) (of_planned_panels f table span (y + 66) rules)

@@ -16,6 +16,7 @@ use Rattle.hw_chart.specs.declared.panel.Panel.{Panel}
 use Rattle.hw_chart.specs.declared.row.Sailings.{Sailings}
 use Rattle.hw_chart.specs.Grids.{axis_of, axis_text, caption_text, grid, is_day_mark, line_paths, mark, axis_mark_class, mark_text, marks, span_end}
 use Rattle.hw_chart.specs.Headings.{ground, heading_lines}
+use Rattle.hw_chart.specs.Hours.{at_most_of_hours, hours_ground, hours_inside, hours_label, planned_hours, unplanned_hours}
 use Rattle.hw_chart.specs.Layout.{pin, stripe}
 use Rattle.hw_chart.specs.Outcomes.{badge}
 use Rattle.hw_chart.specs.Panels.{at_most, fleet_label, held_inside, panel_ground, planned_panel, unplanned_panel}
@@ -124,6 +125,24 @@ module _ {P : Tags → List ℕ → Tags → Type 0} (w : Writing P) where
 
   pub of_planned : {a : Tags} (p : Panel) (held : ℕ → ℕ) → P a (planned_panel p held) a
   of_planned p held = five (of_label p) (w.opened _) (of_inside p held) w.closed (of_most p _)
+
+  of_hours_label : {a : Tags} (p : Panel) (least : ℕ) → P a (hours_label p least) a
+  of_hours_label p least = w.onward (says (codes "b") refl 16 (p.y + 16) (fixed (codes "Tugs") refl)) (says (codes "m") refl 16 (p.y + 32) (also (fixed (codes "fleet of ") refl) (also (of_number least) (also (fixed (codes " to ") refl) (also (of_number p.fleet) (plain nothing))))))
+
+  of_hours_ground : {a : Tags} (p : Panel) (fleet : ℕ → ℕ) → P a (hours_ground p fleet) a
+  of_hours_ground p fleet = figure (codes "wi") refl _ 0 p.slots _
+
+  of_hours_inside : {a : Tags} (p : Panel) (fleet held : ℕ → ℕ) → P a (hours_inside p fleet held) a
+  of_hours_inside p fleet held = three (of_hours_ground p fleet) (figure (codes "tu") refl _ 0 p.slots _) (figure (codes "fu") refl _ 0 p.slots _)
+
+  of_most_of_hours : {a : Tags} (p : Panel) (least most : ℕ) → P a (at_most_of_hours p least most) a
+  of_most_of_hours p least most = says (codes "m") refl 900 (p.y + 16) (also (fixed (codes "at most ") refl) (also (of_number most) (also (fixed (codes " of ") refl) (also (of_number least) (also (fixed (codes " to ") refl) (also (of_number p.fleet) (also (fixed (codes " held at once") refl) (plain nothing))))))))
+
+  pub of_unplanned_hours : {a : Tags} (p : Panel) (least : ℕ) (fleet : ℕ → ℕ) → P a (unplanned_hours p least fleet) a
+  of_unplanned_hours p least fleet = four (of_hours_label p least) (w.opened _) (of_hours_ground p fleet) w.closed
+
+  pub of_planned_hours : {a : Tags} (p : Panel) (least : ℕ) (fleet held : ℕ → ℕ) → P a (planned_hours p least fleet held) a
+  of_planned_hours p least fleet held = five (of_hours_label p least) (w.opened _) (of_hours_inside p fleet held) w.closed (of_most_of_hours p least _)
 
   of_mark_text : {a : Tags} (x : Axis) (at : ℕ) → P a (mark x at) a
   of_mark_text x at = w.onward (w.lettered _ 116 (plain_mark x.scale at) (spelled_mark x.scale at)) (w.lettered _ _ (plain_mark x.scale at) (spelled_mark x.scale at))
