@@ -2,7 +2,7 @@
 
 ghost use Rattle.std.specs.Prelude.{◌≡◌, ◌≤◌, ◌<◌, ℕ, [], ◌∷◌, All, IfSome, IsNone, length};
 ghost use Rattle.hw_model.specs.Limits.{RuleFits};
-ghost use Rattle.hw_chart_flat.specs.Fleets.{fleet_of, fleets, fleets_in, greatest_fleet, is_fleet, jobs_of_rule, least_fleet, steps_of};
+ghost use Rattle.hw_chart_flat.specs.Fleets.{fleet_of, fleets, fleets_in, greatest_fleet, has_hours, is_fleet, jobs_of_rule, least_fleet, steps_of};
 
 use hw_flat::Flat;
 use hw_model::{Job, Rule, Step};
@@ -97,6 +97,13 @@ pub(crate) fn steps(rule: &Rule) -> &[Step]
         Rule::Pair { .. } | Rule::After { .. } => &[],
         Rule::Tugs { later, .. } => &later.items,
     }
+}
+
+/// Whether the fleet hasn't one number of tugs for all slots.
+pub(crate) fn has_hours(rule: &Rule) -> bool
+    ensures { result ≡ has_hours rule.now }
+{
+    !steps(rule).is_empty()
 }
 
 /// The greatest number of tugs of a fleet that begins so and has these steps.

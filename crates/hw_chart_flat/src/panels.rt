@@ -3,20 +3,20 @@
 ghost use Rattle.std.specs.Prelude.{◌≡◌, ◌+◌, ◌*◌, ◌^◌, ◌≤◌, ◌<◌, All, length};
 ghost use Rattle.hw_model.specs.Limits.{RuleFits};
 ghost use Rattle.hw_model.specs.Problem.{IsTimetable};
-ghost use Rattle.hw_model.specs.Rules.{busy, fleet_in};
+ghost use Rattle.hw_model.specs.Rules.{busy};
 ghost use Rattle.hw_desk.specs.Writers.{Puts};
-ghost use Rattle.hw_chart_flat.specs.Fleets.{fleets_in};
+ghost use Rattle.hw_chart_flat.specs.Fleets.{fleet_at, fleet_of, fleets_in, least_fleet, steps_of};
 ghost use Rattle.hw_chart_flat.specs.Marks.{is_held_whole};
 ghost use Rattle.hw_chart_flat.specs.Pictures.{flat_panel_of, planned_fleet, planned_panels, unplanned_fleet, unplanned_panels};
 
-use crate::fleets::{Fleets, fleet_size, greatest_fleet, least_fleet, next, steps};
+use crate::fleets::{Fleets, fleet_size, greatest_fleet, has_hours, least_fleet, next, steps};
 use hw_chart::{
     Panel, meets, put_planned_hours, put_planned_panel, put_unplanned_hours, put_unplanned_panel,
 };
 use hw_chart_svg::Levels;
 use hw_desk::Writer;
 use hw_flat::{Flat, Timetable};
-use hw_model::{Rule, Step, fleet_in};
+use hw_model::{Rule, fleet_in};
 use hw_rules::busy;
 
 /// The tugs that a fleet holds in each slot.
@@ -40,17 +40,16 @@ impl Levels for Held<'_> {
 /// The tugs that there are in each slot.
 #[derive(Drop)]
 struct Hours<'h> {
-    fleet: u32,
-    later: &'h [Step],
+    rule: &'h Rule,
 }
 
 impl Levels for Hours<'_> {
-    ghost level = { λ h. fleet_in h.fleet h.later.now };
+    ghost level = { λ h. fleet_at h.rule.now };
 
     ghost end = { λ h. 2 ^ 32 };
 
     fn level(&self, slot: u32) -> u64 {
-        u64::from(fleet_in(self.fleet, self.later, slot))
+        u64::from(fleet_in(fleet_size(self.rule), steps(self.rule), slot))
     }
 }
 
@@ -66,18 +65,22 @@ fn panel(flat: &Flat, span: u32, y: u32, rule: &Rule) -> Panel
     }
 }
 
+/// The least number of tugs of a fleet.
+fn least(rule: &Rule) -> u64
+    ensures { result ≡ least_fleet (fleet_of rule.now) (steps_of rule.now) }
+{
+    u64::from(least_fleet(fleet_size(rule), steps(rule)))
+}
+
 /// Puts the panel of a fleet where there is no timetable.
 fn put_unplanned_fleet<W: Writer>(out: &mut W, flat: &Flat, span: u32, y: u32, rule: &Rule)
     ensures { Puts (unplanned_fleet flat.now span y rule.now) (W.state out.old) (W.state out.new) }
 {
-    let fleet = fleet_size(rule);
-    let later = steps(rule);
     let panel = panel(flat, span, y, rule);
-    if later.is_empty() {
-        put_unplanned_panel(out, panel);
+    if has_hours(rule) {
+        put_unplanned_hours(out, panel, least(rule), &Hours { rule });
     } else {
-        let least = u64::from(least_fleet(fleet, later));
-        put_unplanned_hours(out, panel, least, &Hours { fleet, later });
+        put_unplanned_panel(out, panel);
     }
 }
 
@@ -93,15 +96,12 @@ fn put_planned_fleet<W: Writer>(
     requires { RuleFits (length table.now) rule.now }
     ensures { Puts (planned_fleet flat.now table.now span y rule.now) (W.state out.old) (W.state out.new) }
 {
-    let fleet = fleet_size(rule);
-    let later = steps(rule);
     let panel = panel(flat, span, y, rule);
     let held = Held { rule, table };
-    if later.is_empty() {
-        put_planned_panel(out, panel, &held);
+    if has_hours(rule) {
+        put_planned_hours(out, panel, least(rule), &Hours { rule }, &held);
     } else {
-        let least = u64::from(least_fleet(fleet, later));
-        put_planned_hours(out, panel, least, &Hours { fleet, later }, &held);
+        put_planned_panel(out, panel, &held);
     }
 }
 
@@ -147,9 +147,5 @@ pub(crate) fn is_held_whole(slots: u32, table: &Timetable, rule: &Rule) -> bool
     ensures { result ≡ is_held_whole slots table.now rule.now }
 {
     let held = Held { rule, table };
-    let hours = Hours {
-        fleet: fleet_size(rule),
-        later: steps(rule),
-    };
-    meets(&held, &hours, slots)
+    meets(&held, &Hours { rule }, slots)
 }
