@@ -16,6 +16,8 @@ use Rattle.hw_prop.specs.Reductions.{reduced, IsQuiet, IsCut}
 use Rattle.hw_prop.specs.declared.reduction.Reduction.{Reduction}
 use Rattle.hw_prop.specs.declared.reduction.Reduction.TheVariants.{Here, Lowest, Highest, First, NotFirst}
 use Rattle.hw_prop.proofs.Reading.{range_put, range_put_other}
+use Rattle.hw_tugs.specs.declared.fleets.Fleets.{Fleets}
+use Rattle.hw_tugs.specs.Fleets.{fleet_at}
 use Rattle.hw_tugs.specs.Held.{tugs_within, held_for, IsForced}
 use Rattle.hw_tugs.specs.Over.{OverAt, Exceeding, IsCalm, Overfills}
 
@@ -101,22 +103,22 @@ at_all P (j ∷ js) zero job e all = let same : j ≡ job = cc in subst P same (
 at_all P (j ∷ js) (suc place) job e all = at_all P js place job e (All-tail P j js all)
 
 -- either some job that may hold a slot is calm there, or none holds it
-few_or_none : (jobs : List Job) (load : List ℕ) (fleet : ℕ) (room : RoomModel) (s : ℕ) → s < length load → All (IsCalm load fleet room) jobs → (get_or load s 0 ≤ fleet) ⊎ (sum_by (forced_by room s) jobs ≡ 0)
-few_or_none [] load fleet room s lt all = inr refl
-few_or_none (job ∷ jobs) load fleet room s lt all =
-    elim (cases_lt fleet (get_or load s 0)) [
+few_or_none : (jobs : List Job) (load : List ℕ) (fleets : Fleets) (room : RoomModel) (s : ℕ) → s < length load → All (IsCalm load fleets room) jobs → (get_or load s 0 ≤ fleet_at fleets s) ⊎ (sum_by (forced_by room s) jobs ≡ 0)
+few_or_none [] load fleets room s lt all = inr refl
+few_or_none (job ∷ jobs) load fleets room s lt all =
+    elim (cases_lt (fleet_at fleets s) (get_or load s 0)) [
       | inr le ↦ inl le
-      | inl over ↦ elim (few_or_none jobs load fleet room s lt (All-tail (IsCalm load fleet room) job jobs all)) [
+      | inl over ↦ elim (few_or_none jobs load fleets room s lt (All-tail (IsCalm load fleets room) job jobs all)) [
         | inl le ↦ inl le
         | inr none ↦
-            let calm = All-head (IsCalm load fleet room) job jobs all in
+            let calm = All-head (IsCalm load fleets room) job jobs all in
             let zero_here : forced_by room s job ≡ 0 =
             none_held (high_of room job.ship) (low_of room job.ship + job.hold) job.tugs s (λ a b. calm.here s (record { from_in = omega arith; to_in = b; inside = lt; over = omega (arith, over) })) in
             inr (omega (arith, zero_here, none, sum_by-cons (forced_by room s) job jobs))
       ]
     ]
 
-module _ (jobs : List Job) (load : List ℕ) (fleet : ℕ) (room : RoomModel) (is : IsRoom room) (fit : All (JobFits room.ships) jobs) (up : AllPairs (λ a b. a.ship < b.ship) jobs) (forced : IsForced jobs room load) where
+module _ (jobs : List Job) (load : List ℕ) (fleets : Fleets) (room : RoomModel) (is : IsRoom room) (fit : All (JobFits room.ships) jobs) (up : AllPairs (λ a b. a.ship < b.ship) jobs) (forced : IsForced jobs room load) where
   ship_in : (place : ℕ) (job : Job) → slice_get jobs place ≡ Some job → job.ship < length room.ranges
   ship_in place job at = omega (arith, is.each_ship, (at_all (JobFits room.ships) jobs place job at fit).ship_in)
 
@@ -139,14 +141,14 @@ module _ (jobs : List Job) (load : List ℕ) (fleet : ℕ) (room : RoomModel) (i
   high_load place job s at = put_load jobs room place job (high_of room job.ship) (high_of room job.ship) s up at (ship_in place job at)
 
   -- 1. what a job overfills is a cut
-  pub job_cuts : (place : ℕ) (job : Job) (c : Reduction) (s : ℕ) → slice_get jobs place ≡ Some job → s < length load → Overfills load fleet room job c s → IsCut (OverAt fleet jobs s) room c
+  pub job_cuts : (place : ℕ) (job : Job) (c : Reduction) (s : ℕ) → slice_get jobs place ≡ Some job → s < length load → Overfills load fleets room job c s → IsCut (OverAt (fleet_at fleets s) jobs s) room c
   job_cuts place job Here s at lt o = record { may = tt; refuted = omega (arith, o.over, forced s lt) }
   job_cuts place job (Lowest ship) s at lt o =
       let low = low_of room job.ship in
       let high = high_of room job.ship in
       let below : s < high = omega (arith, o.1.to_in) in
       let held : s < low + job.hold = omega (arith, o.1.to_in) in
-      let P : ℕ → Type 0 = λ u. fleet < sum_by (forced_by (reduced (Lowest u) room) s) jobs in
+      let P : ℕ → Type 0 = λ u. fleet_at fleets s < sum_by (forced_by (reduced (Lowest u) room) s) jobs in
       record {
         may = omega (arith, o.0, (at_all (JobFits room.ships) jobs place job at fit).ship_in);
         refuted = subst P (sym o.0) (omega (arith, o.1.over, forced s lt, low_load place job s at, lowest_more low high job.hold job.tugs s o.1.from_in below held));
@@ -156,7 +158,7 @@ module _ (jobs : List Job) (load : List ℕ) (fleet : ℕ) (room : RoomModel) (i
       let high = high_of room job.ship in
       let above : high ≤ s = omega (arith, o.1.from_in) in
       let free : low + job.hold ≤ s = omega (arith, o.1.from_in) in
-      let P : ℕ → Type 0 = λ u. fleet < sum_by (forced_by (reduced (Highest u) room) s) jobs in
+      let P : ℕ → Type 0 = λ u. fleet_at fleets s < sum_by (forced_by (reduced (Highest u) room) s) jobs in
       record {
         may = omega (arith, o.0, (at_all (JobFits room.ships) jobs place job at fit).ship_in);
         refuted = subst P (sym o.0) (omega (arith, o.1.over, forced s lt, high_load place job s at, highest_more low high job.hold job.tugs s above free o.1.to_in));
@@ -165,17 +167,17 @@ module _ (jobs : List Job) (load : List ℕ) (fleet : ℕ) (room : RoomModel) (i
   job_cuts place job (NotFirst v w) s at lt o = absurd o
 
   -- 2. where each job is calm, nothing is refuted
-  here_few : All (IsCalm load fleet room) jobs → (s : ℕ) → s < length load → now s ≤ fleet
-  here_few all s lt = elim (few_or_none jobs load fleet room s lt all) [
+  here_few : All (IsCalm load fleets room) jobs → (s : ℕ) → s < length load → now s ≤ fleet_at fleets s
+  here_few all s lt = elim (few_or_none jobs load fleets room s lt all) [
     | inl le ↦ omega (arith, le, forced s lt)
     | inr none ↦ omega (arith, none)
   ]
 
-  low_few : All (IsCalm load fleet room) jobs → (place : ℕ) (job : Job) (s : ℕ) → slice_get jobs place ≡ Some job → s < length load → at_low job s ≤ fleet
+  low_few : All (IsCalm load fleets room) jobs → (place : ℕ) (job : Job) (s : ℕ) → slice_get jobs place ≡ Some job → s < length load → at_low job s ≤ fleet_at fleets s
   low_few all place job s at lt =
       let low = low_of room job.ship in
       let high = high_of room job.ship in
-      let same : (s < low) ⊎ ((high ≤ s) ⊎ (low + job.hold ≤ s)) → at_low job s ≤ fleet =
+      let same : (s < low) ⊎ ((high ≤ s) ⊎ (low + job.hold ≤ s)) → at_low job s ≤ fleet_at fleets s =
       λ o. omega (arith, low_load place job s at, lowest_same low high job.hold job.tugs s (ordered place job at) o, here_few all s lt) in
       elim (cases_lt s low) [
         | inl a ↦ same (inl a)
@@ -183,19 +185,19 @@ module _ (jobs : List Job) (load : List ℕ) (fleet : ℕ) (room : RoomModel) (i
           | inr b ↦ same (inr (inl b))
           | inl b ↦ elim (cases_lt s (low + job.hold)) [
             | inr c ↦ same (inr (inr c))
-            | inl c ↦ elim (cases_lt fleet (get_or load s 0 + job.tugs)) [
-              | inl over ↦ absurd ((at_all (IsCalm load fleet room) jobs place job at all).lowest s (record { from_in = a; to_in = omega (arith, b, c); inside = lt; over = over }))
+            | inl c ↦ elim (cases_lt (fleet_at fleets s) (get_or load s 0 + job.tugs)) [
+              | inl over ↦ absurd ((at_all (IsCalm load fleets room) jobs place job at all).lowest s (record { from_in = a; to_in = omega (arith, b, c); inside = lt; over = over }))
               | inr le ↦ omega (arith, le, forced s lt, low_load place job s at, lowest_more low high job.hold job.tugs s a b c)
             ]
           ]
         ]
       ]
 
-  high_few : All (IsCalm load fleet room) jobs → (place : ℕ) (job : Job) (s : ℕ) → slice_get jobs place ≡ Some job → s < length load → at_high job s ≤ fleet
+  high_few : All (IsCalm load fleets room) jobs → (place : ℕ) (job : Job) (s : ℕ) → slice_get jobs place ≡ Some job → s < length load → at_high job s ≤ fleet_at fleets s
   high_few all place job s at lt =
       let low = low_of room job.ship in
       let high = high_of room job.ship in
-      let same : (s < high) ⊎ ((s < low + job.hold) ⊎ (high + job.hold ≤ s)) → at_high job s ≤ fleet =
+      let same : (s < high) ⊎ ((s < low + job.hold) ⊎ (high + job.hold ≤ s)) → at_high job s ≤ fleet_at fleets s =
       λ o. omega (arith, high_load place job s at, highest_same low high job.hold job.tugs s (ordered place job at) o, here_few all s lt) in
       elim (cases_lt s high) [
         | inl a ↦ same (inl a)
@@ -203,35 +205,35 @@ module _ (jobs : List Job) (load : List ℕ) (fleet : ℕ) (room : RoomModel) (i
           | inl b ↦ same (inr (inl b))
           | inr b ↦ elim (cases_lt s (high + job.hold)) [
             | inr c ↦ same (inr (inr c))
-            | inl c ↦ elim (cases_lt fleet (get_or load s 0 + job.tugs)) [
-              | inl over ↦ absurd ((at_all (IsCalm load fleet room) jobs place job at all).highest s (record { from_in = omega (arith, a, b); to_in = c; inside = lt; over = over }))
+            | inl c ↦ elim (cases_lt (fleet_at fleets s) (get_or load s 0 + job.tugs)) [
+              | inl over ↦ absurd ((at_all (IsCalm load fleets room) jobs place job at all).highest s (record { from_in = omega (arith, a, b); to_in = c; inside = lt; over = over }))
               | inr le ↦ omega (arith, le, forced s lt, high_load place job s at, highest_more low high job.hold job.tugs s a b c)
             ]
           ]
         ]
       ]
 
-  pub all_quiet : All (IsCalm load fleet room) jobs → IsQuiet (Exceeding fleet jobs (length load)) room
+  pub all_quiet : All (IsCalm load fleets room) jobs → IsQuiet (Exceeding fleets jobs (length load)) room
   all_quiet all Here i f = omega (arith, f.2, here_few all f.0 f.1)
   all_quiet all (First v w) i f = omega (arith, f.2, here_few all f.0 f.1)
   all_quiet all (NotFirst v w) i f = omega (arith, f.2, here_few all f.0 f.1)
   all_quiet all (Lowest ship) i f = elim (find_job ship jobs) [
     | inl k ↦
-        let P : ℕ → Type 0 = λ u. sum_by (forced_by (reduced (Lowest u) room) f.0) jobs ≤ fleet in
+        let P : ℕ → Type 0 = λ u. sum_by (forced_by (reduced (Lowest u) room) f.0) jobs ≤ fleet_at fleets f.0 in
         omega (arith, f.2, subst P k.own (low_few all k.place k.job f.0 k.at f.1))
     | inr none ↦ omega (arith, f.2, else_load jobs room ship (low_of room ship) (low_of room ship) f.0 none, here_few all f.0 f.1)
   ]
   all_quiet all (Highest ship) i f = elim (find_job ship jobs) [
     | inl k ↦
-        let P : ℕ → Type 0 = λ u. sum_by (forced_by (reduced (Highest u) room) f.0) jobs ≤ fleet in
+        let P : ℕ → Type 0 = λ u. sum_by (forced_by (reduced (Highest u) room) f.0) jobs ≤ fleet_at fleets f.0 in
         omega (arith, f.2, subst P k.own (high_few all k.place k.job f.0 k.at f.1))
     | inr none ↦ omega (arith, f.2, else_load jobs room ship (high_of room ship) (high_of room ship) f.0 none, here_few all f.0 f.1)
   ]
 
 -- an overfilled slot is one of the horizon
-pub cut_slot : (load : List ℕ) (fleet : ℕ) (room : RoomModel) (job : Job) (c : Reduction) (s : ℕ) → Overfills load fleet room job c s → s < length load
-cut_slot load fleet room job Here s o = o.inside
-cut_slot load fleet room job (Lowest ship) s o = o.1.inside
-cut_slot load fleet room job (Highest ship) s o = o.1.inside
-cut_slot load fleet room job (First v w) s o = absurd o
-cut_slot load fleet room job (NotFirst v w) s o = absurd o
+pub cut_slot : (load : List ℕ) (fleets : Fleets) (room : RoomModel) (job : Job) (c : Reduction) (s : ℕ) → Overfills load fleets room job c s → s < length load
+cut_slot load fleets room job Here s o = o.inside
+cut_slot load fleets room job (Lowest ship) s o = o.1.inside
+cut_slot load fleets room job (Highest ship) s o = o.1.inside
+cut_slot load fleets room job (First v w) s o = absurd o
+cut_slot load fleets room job (NotFirst v w) s o = absurd o

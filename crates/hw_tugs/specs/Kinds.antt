@@ -7,6 +7,7 @@ use Rattle.hw_model.specs.declared.source.Source.{Source}
 use Rattle.hw_model.specs.Problem.{Problem}
 use Rattle.hw_model.specs.Rooms.{RoomModel}
 use Rattle.hw_model.specs.Refuting.{IsSourceOf, forced_by}
+use Rattle.hw_rules.specs.Fleets as fleets
 use Rattle.hw_prop.specs.Ruled.{rule_of}
 
 -- a rule on tugs
@@ -26,6 +27,15 @@ jobs_in None = []
 jobs_in (Some (Pair v w holes)) = []
 jobs_in (Some (After v w gap)) = []
 jobs_in (Some (Tugs fleet later jobs)) = jobs
+
+-- the tugs that a rule's fleet has in a slot; a rule on two ships has none
+abbrev pub fleet_by : Option Rule → ℕ → ℕ
+fleet_by None slot = 0
+fleet_by (Some rule) slot = fleets.fleet_of rule slot
+
+-- the tugs that the fleet of a source has in a slot
+abbrev pub fleet_of : Problem → Source → ℕ → ℕ
+fleet_of f source slot = fleet_by (rule_of f source) slot
 
 -- the jobs of a source, none of one that is no rule on tugs
 abbrev pub jobs_of : Problem → Source → List Job

@@ -8,6 +8,7 @@ ghost use Rattle.hw_model.specs.Rooms.{RoomFits};
 ghost use Rattle.hw_model.specs.Refuting.{IsSourceOf};
 ghost use Rattle.hw_prop.specs.Finds.{Explanation, Finds};
 ghost use Rattle.hw_prop.specs.Ruled.{rule_of};
+ghost use Rattle.hw_tugs.specs.Fleets.{Tells};
 ghost use Rattle.hw_tugs.specs.Held.{IsForced};
 ghost use Rattle.hw_tugs.specs.Over.{CutsAt};
 
@@ -20,7 +21,7 @@ use hw_prop::{Refuter, Spoken, clause_of};
 use hw_rules::forced_tugs;
 use std::alloc::Global;
 
-/// Jobs that certainly hold more tugs in one slot than the fleet has.
+/// Jobs that certainly hold more tugs in one slot than the fleet has in it.
 #[derive(Clone, Copy)]
 struct AtSlot<'f> {
     fleet: u32,
@@ -43,8 +44,8 @@ impl<'f> Refuter for AtSlot<'f> {
     }
 }
 
-/// The clause of a reduction that exceeds the fleet, loosened. `trial` is a room of the same size, with
-/// any content.
+/// The clause of a reduction that exceeds the fleet of a slot, loosened. `trial` is a room of the
+/// same size, with any content.
 pub(crate) fn cut_clause(
     alloc: Global,
     test: &TugsTest<'_>,
@@ -54,10 +55,11 @@ pub(crate) fn cut_clause(
     ships: &[ShipId],
 ) -> Result<Clause, NoMemory>
     requires source_in { IsSourceOf test.now.by.flat.now test.now.by.source }
-    requires rule { rule_of test.now.by.flat.now test.now.by.source ≡ Some (Rule.Tugs test.now.rule.fleet test.now.rule.jobs.now) }
-    requires fits { TugsFit test.now.by.flat.now.ships test.now.rule.fleet test.now.rule.jobs.now }
+    requires rule { rule_of test.now.by.flat.now test.now.by.source ≡ Some (Rule.Tugs test.now.rule.fleet test.now.rule.later.now test.now.rule.jobs.now) }
+    requires fits { TugsFit test.now.by.flat.now.ships test.now.rule.fleet test.now.rule.later.now test.now.rule.jobs.now }
+    requires fleets { Tells (horizon test.now.by.flat.now) test.now.rule.fleet test.now.rule.later.now test.now.fleets.now }
     requires room { RoomFits test.now.by.flat.now room.now }
-    requires cut { CutsAt test.now.rule.fleet test.now.rule.jobs.now (horizon test.now.by.flat.now) room.now cut }
+    requires cut { CutsAt test.now.fleets.now test.now.rule.jobs.now (horizon test.now.by.flat.now) room.now cut }
     requires ships { ships.now ≡ map (λ job. job.ship) test.now.rule.jobs.now }
     requires trial { trial.old.ships ≡ test.now.by.flat.now.ships }
     ensures worth { IfOk result (Explanation test.now.by.flat.now test.now.by.source test.now.by.best room.now) }
@@ -70,7 +72,7 @@ pub(crate) fn cut_clause(
         pairs: &[],
     };
     let at = AtSlot {
-        fleet: test.rule.fleet,
+        fleet: test.fleets.at(cut.slot as usize),
         jobs: test.rule.jobs,
         slot: cut.slot,
     };
@@ -89,8 +91,9 @@ pub(crate) fn tugs_step(
     ships: &[ShipId],
 ) -> Result<Found, NoMemory>
     requires source_in { IsSourceOf test.now.by.flat.now test.now.by.source }
-    requires rule { rule_of test.now.by.flat.now test.now.by.source ≡ Some (Rule.Tugs test.now.rule.fleet test.now.rule.jobs.now) }
-    requires fits { TugsFit test.now.by.flat.now.ships test.now.rule.fleet test.now.rule.jobs.now }
+    requires rule { rule_of test.now.by.flat.now test.now.by.source ≡ Some (Rule.Tugs test.now.rule.fleet test.now.rule.later.now test.now.rule.jobs.now) }
+    requires fits { TugsFit test.now.by.flat.now.ships test.now.rule.fleet test.now.rule.later.now test.now.rule.jobs.now }
+    requires fleets { Tells (horizon test.now.by.flat.now) test.now.rule.fleet test.now.rule.later.now test.now.fleets.now }
     requires room { RoomFits test.now.by.flat.now room.now }
     requires each_slot { length load.now ≡ horizon test.now.by.flat.now }
     requires small { (slot : ℕ) → slot < length load.now → slice_index load.now slot ≤ 10_000 }
@@ -101,7 +104,7 @@ pub(crate) fn tugs_step(
     ensures trial { trial.new.ships ≡ test.now.by.flat.now.ships }
 {
     let _shape = test.by.flat.shape();
-    match tug_cut(test.rule.jobs, test.rule.fleet, room, load) {
+    match tug_cut(test.rule.jobs, test.fleets, room, load) {
         None => Ok(Found::Quiet),
         Some(cut) => Ok(Found::Clause(cut_clause(alloc, test, room, trial, cut, ships)?)),
     }

@@ -5,6 +5,7 @@
 mod cutting;
 mod explaining;
 mod figures;
+mod fleets;
 mod mending;
 mod profile;
 mod rule;

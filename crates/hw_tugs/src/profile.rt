@@ -7,6 +7,7 @@ ghost use Rattle.hw_tugs.specs.Kinds.{OfTugs, HeldWhere};
 
 use crate::explaining::tugs_step;
 use crate::figures::Figures;
+use crate::fleets::Fleets;
 use crate::rule::{TugsTest, tugs_rule};
 use hw_flat::{Flat, Job, Room, ShipId, Slot, Source};
 use hw_lits::Found;
@@ -15,8 +16,9 @@ use hw_prop::{BySource, Propagator};
 use std::alloc::Global;
 
 /// The propagator of a rule on tugs. It keeps the tugs that are certainly held in each slot of the
-/// horizon. A job certainly holds its tugs from its ship's highest slot on, until the hold after its
-/// lowest slot is over. A ship that may still stay holds none.
+/// horizon, and where the rule has steps the fleet of each slot. A job certainly holds its tugs from
+/// its ship's highest slot on, until the hold after its lowest slot is over. A ship that may still
+/// stay holds none.
 ///
 /// A quiet step takes no memory, and at most one step for each slot in which a job may hold its tugs.
 /// `undone` compares one range for each job, and takes a step for each slot that a job certainly
@@ -27,6 +29,7 @@ pub struct TugProfile {
     ships: Vec<ShipId>,
     trial: Room,
     figures: Figures,
+    fleets: Fleets,
 }
 
 fn ships_of(alloc: Global, jobs: &[Job]) -> Result<Vec<ShipId>, NoMemory>
@@ -50,11 +53,13 @@ impl TugProfile {
         let trial = Room::whole(alloc, flat.shape())?;
         let ships = ships_of(alloc, rule.jobs)?;
         let figures = Figures::of_room(alloc, rule.jobs, &trial, flat.horizon())?;
+        let fleets = Fleets::of_rule(alloc, rule.fleet, rule.later, flat.horizon())?;
         Ok(TugProfile {
             source,
             ships,
             trial,
             figures,
+            fleets,
         })
     }
 
@@ -73,9 +78,9 @@ impl Propagator for TugProfile {
 
     ghost source = { λ p. p.source };
 
-    ghost serves = { λ p f. KeepsProfile f p.source p.ships.items p.trial p.figures };
+    ghost serves = { λ p f. KeepsProfile f p.source p.ships.items p.trial p.figures p.fleets };
 
-    ghost ready = { λ p f room. RoomHasFigures f p.source p.ships.items p.trial p.figures room };
+    ghost ready = { λ p f room. RoomHasFigures f p.source p.ships.items p.trial p.figures p.fleets room };
 
     ghost ready_serves = { λ p f room h. h.keeps };
 
@@ -98,7 +103,11 @@ impl Propagator for TugProfile {
             source: self.source,
             best,
         };
-        let test = TugsTest { by, rule };
+        let test = TugsTest {
+            by,
+            rule,
+            fleets: &self.fleets,
+        };
         tugs_step(
             alloc,
             &test,

@@ -6,7 +6,7 @@ abbrev pub invariant-loop-left : goal.invariant-loop-left
 invariant-loop-left l = record {
   inside : l.left ≤ length l.load;
   before : l.left ≤ l.to;
-  remainder : (k : ℕ) → l.left ≤ k → IsOver l.load l.fleet l.more l.from l.to k → ⊥;
+  remainder : (k : ℕ) → l.left ≤ k → IsOver l.load l.fleets l.more l.from l.to k → ⊥;
 }
 
 abbrev pub decreases-loop-left : goal.decreases-loop-left

@@ -22,6 +22,8 @@ returns-clause-ready c =
         load = subst P (sym jobs) c.narrow.ensures.load;
         each_ship = ready.keeps.each_ship;
         trial_ships = ready.keeps.trial_ships;
+        least_fleet = ready.keeps.least_fleet;
+        each_fleet = ready.keeps.each_fleet;
       };
       fits = cut_fits f c.args.before.now c.args.lit ready.fits (subst (λ n. IsLitOf n c.args.lit) (sym ready.fits.same_ships) c.requires.fits) c.requires.free;
       sees = subst Q (sym jobs) c.narrow.ensures.sees;
