@@ -96,7 +96,7 @@ def changed(r, text):
             words[r.randrange(len(words))] = r.choice(ODD)
         elif how == 7 and lines[place]:
             at = r.randrange(len(lines[place]))
-            words = [lines[place][:at], r.choice("abfnegolptduy;-"), lines[place][at + 1:]]
+            words = [lines[place][:at], r.choice("abfnegolptduhy;-"), lines[place][at + 1:]]
         elif words[word].isdigit():
             words[word] = str(max(0, int(words[word]) + r.choice([-9, -2, -1, -1, 1, 1, 2, 9])))
         if how > 5:
