@@ -197,7 +197,7 @@ small_teams ships team (j ∷ js) all =
     All-cons (λ weight. weight ≤ 64) (j.tugs / team) (map (λ job. job.tugs / team) js) (le_trans (div-le_self j.tugs team) here.few_tugs) (small_teams ships team js (All-tail (JobFits ships) j js all))
 
 -- a small fleet with small steps is small in each slot
-small_fleet_in : (later : List Step) (fleet slot : ℕ) → fleet ≤ 2560 → All StepFits later → fleet_in fleet later slot ≤ 2560
+pub small_fleet_in : (later : List Step) (fleet slot : ℕ) → fleet ≤ 2560 → All StepFits later → fleet_in fleet later slot ≤ 2560
 small_fleet_in [] fleet slot small each = small
 small_fleet_in (step ∷ later) fleet slot small each = by (nat_le step.from slot) (small_fleet_in later step.fleet slot (All-head StepFits step later each).small_fleet (All-tail StepFits step later each))
   where

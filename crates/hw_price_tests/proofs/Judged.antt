@@ -1,8 +1,14 @@
 -- What tests of blocks tell of a toll.
-use Rattle.std.proofs.Common.{◌≡◌, ◌↔◌, ℕ, ◌+◌, ◌<◌, ◌≤◌, Bool, true, false, nat_eq, List, Result, Ok, Err, length, get_or, take, All, AllPairs, IfOk, IsTrue, refl, sym, ◌∙◌, subst, arith, inl, inr}
+use Rattle.std.proofs.Common.{◌≡◌, ◌↔◌, ℕ, ◌+◌, ◌<◌, ◌≤◌, Bool, true, false, nat_eq, List, Result, Ok, Err, length, get_or, take, All, AllPairs, IfOk, IsTrue, refl, sym, ap, ◌∙◌, subst, arith, inl, inr}
 use Rattle.std.proofs.lemmas.Bool.{cases_lt, eqb-false}
 use Rattle.std.proofs.lemmas.List.{get_or-take, get_or_default, length-take}
+use Rattle.hw_model.specs.declared.rule.Job.{Job}
+use Rattle.hw_model.specs.declared.rule.Rule.{Rule}
+use Rattle.hw_model.specs.declared.rule.Rule.TheVariants as rules
+use Rattle.hw_model.specs.declared.rule.Step.{Step}
+use Rattle.hw_model.specs.Limits.{RuleFits}
 use Rattle.hw_model.specs.Problem.{Problem}
+use Rattle.hw_model.specs.Rules.{fleet_in}
 use Rattle.hw_model.specs.Rooms.{RoomModel}
 use Rattle.hw_model.specs.declared.memory.NoMemory.{NoMemory}
 use Rattle.hw_price_laws.specs.declared.toll.Block.{Block}
@@ -11,6 +17,7 @@ use Rattle.hw_price_laws.specs.declared.toll.Toll.TheVariants.{Narrows, Tugs}
 use Rattle.hw_price_laws.specs.Tolls.{IsToll, NarrowsFit, TugsTollFits, Apart, two_blocks}
 use Rattle.hw_price_laws.specs.Judged.{is_toll}
 use Rattle.hw_price_laws.proofs.Judging.{judged, judges}
+use Rattle.hw_price_laws.proofs.Kept.{small_fleet_in}
 use Rattle.hw_price_tests.specs.Asked.{SomeRuleRefutes}
 
 pub narrows_told : (f : Problem) (toll : Toll) (blocks given : List Block) (r : Result Bool NoMemory) → toll ≡ Narrows blocks → given ≡ blocks → IfOk r (λ yes. IsTrue yes ↔ NarrowsFit f given) → IfOk r (λ yes. IsTrue yes ↔ IsToll f toll)
@@ -76,3 +83,10 @@ apart_told f a b room answer is ascends told =
           record { ascends = ascends; place = one.0; place_in = one.1; refuted = one.2 },
       λ h. here.1 (h.place, h.place_in, h.refuted),
     )
+
+-- the fleet of a rule that fits is small in each slot
+pub small_hour : (ships fleet slot n : ℕ) (rule : Rule) (later given : List Step) (jobs : List Job) → rule ≡ rules.Tugs fleet later jobs → given ≡ later → n ≡ fleet_in fleet given slot → RuleFits ships rule → n ≤ 2_560
+small_hour ships fleet slot n rule later given jobs is same e fits =
+    let told : RuleFits ships (rules.Tugs fleet later jobs) = subst (RuleFits ships) is fits in
+    let now : n ≡ fleet_in fleet later slot = e ∙ ap (λ steps. fleet_in fleet steps slot) same in
+    omega (arith, now, small_fleet_in later fleet slot told.small_fleet told.each_step)

@@ -1,5 +1,6 @@
 -- One step of a pass through dues.
-use Rattle.std.proofs.Common.{◌≡◌, ℕ, zero, suc, ◌+◌, ◌-◌, ◌*◌, ◌<◌, ◌≤◌, max, Bool, true, false, cond, nat_le, List, [], ◌∷◌, Some, length, get_or, slice_get, drop, sum_by, IfSome, All, refl, sym, ap, ◌∙◌, subst, arith, drop-cons, length-drop, zero-le}
+use Rattle.std.proofs.Common.{◌≡◌, ℕ, zero, suc, ◌+◌, ◌-◌, ◌*◌, ◌<◌, ◌≤◌, min, max, Bool, true, false, cond, nat_le, List, [], ◌∷◌, Some, length, get_or, slice_get, drop, sum_by, IfSome, All, refl, sym, ap, ◌∙◌, subst, arith, drop-cons, length-drop, zero-le, inl, inr}
+use Rattle.std.proofs.lemmas.Bool.{cases_lt, le-leb}
 use Rattle.std.proofs.lemmas.List.{get_or-drop, get_or_default}
 use Rattle.std.proofs.lemmas.List.Elements.{All-head, All-tail}
 use Rattle.std.proofs.lemmas.List.Sums.{sum_by-cons}
@@ -63,6 +64,33 @@ heaviest_small (w ∷ ws) (j ∷ js) tugs all =
     by : (b : Bool) → w ≤ 64 → heaviest ws js tugs ≤ 64 * length js → heaviest ws js (tugs - j.tugs) ≤ 64 * length js → cond b (max (heaviest ws js tugs) (w + heaviest ws js (tugs - j.tugs))) (heaviest ws js tugs) ≤ 64 * length (j ∷ js)
     by true few without with' = omega (arith, few, without, with')
     by false few without with' = omega (arith, without)
+
+-- more tugs than all jobs hold serve no more jobs
+pub enough : (weights : List ℕ) (jobs : List Job) (a b : ℕ) → sum_by (λ (job : Job). job.tugs) jobs ≤ a → sum_by (λ (job : Job). job.tugs) jobs ≤ b → heaviest weights jobs a ≡ heaviest weights jobs b
+enough [] jobs a b x y = refl
+enough (w ∷ ws) [] a b x y = refl
+enough (w ∷ ws) (j ∷ js) a b x y =
+    let all : sum_by (λ (job : Job). job.tugs) (j ∷ js) ≡ j.tugs + sum_by (λ (job : Job). job.tugs) js = sum_by-cons (λ (job : Job). job.tugs) j js in
+    by (nat_le j.tugs a) (nat_le j.tugs b) (le-leb _ _ (omega (arith, all, x))) (le-leb _ _ (omega (arith, all, y)))
+    (enough ws js a b (omega (arith, all, x)) (omega (arith, all, y)))
+    (enough ws js (a - j.tugs) (b - j.tugs) (omega (arith, all, x)) (omega (arith, all, y)))
+  where
+    by : (p q : Bool) → p ≡ true → q ≡ true → heaviest ws js a ≡ heaviest ws js b → heaviest ws js (a - j.tugs) ≡ heaviest ws js (b - j.tugs)
+        → cond p (max (heaviest ws js a) (w + heaviest ws js (a - j.tugs))) (heaviest ws js a) ≡ cond q (max (heaviest ws js b) (w + heaviest ws js (b - j.tugs))) (heaviest ws js b)
+    by true true p q without with' = omega (arith, without, with')
+    by true false p q without with' = absurd cc
+    by false true p q without with' = absurd cc
+    by false false p q without with' = without
+
+-- tugs that are cut to those of all jobs serve as many
+pub cut_tugs : (weights : List ℕ) (jobs : List Job) (tugs useful : ℕ) → useful ≡ min tugs (sum_by (λ (job : Job). job.tugs) jobs) → heaviest weights jobs useful ≡ heaviest weights jobs tugs
+cut_tugs weights jobs tugs useful is = elim (cases_lt tugs (sum_by (λ (job : Job). job.tugs) jobs)) [
+  | inl less ↦ ap (heaviest weights jobs) (all_kept tugs (sum_by (λ (job : Job). job.tugs) jobs) useful is less)
+  | inr many ↦ enough weights jobs useful tugs (omega (arith, is, many)) many
+]
+  where
+    all_kept : (tugs all useful : ℕ) → useful ≡ min tugs all → tugs < all → useful ≡ tugs
+    all_kept tugs all useful is less = omega (arith, is, less)
 
 all_drop : (n : ℕ) (weights : List ℕ) → All (λ weight. weight ≤ 64) weights → All (λ weight. weight ≤ 64) (drop n weights)
 all_drop n weights all = λ i d lt.

@@ -1,12 +1,14 @@
 -- What is asked of all rules of a problem, and which rules may answer.
-use Rattle.std.specs.Prelude.{◌⊎◌, ℕ, ◌+◌, ◌<◌, List, None, length, sum_by, IsTrue}
+use Rattle.std.specs.Prelude.{◌⊎◌, ℕ, ◌+◌, ◌<◌, ◌≤◌, List, None, length, sum_by, All, IsTrue}
 use Rattle.hw_model.specs.declared.rule.Job.{Job}
+use Rattle.hw_model.specs.declared.rule.Step.{Step}
 use Rattle.hw_model.specs.declared.source.Source.TheVariants as sources
 use Rattle.hw_model.specs.Narrowing.{with_range}
 use Rattle.hw_model.specs.Problem.{Problem, horizon, shape_of}
 use Rattle.hw_model.specs.Quiet.{names_ship}
 use Rattle.hw_model.specs.Rooms.{RoomModel, low_of, high_of, whole_room}
 use Rattle.hw_model.specs.Refuting.{Refutes, forced_by}
+use Rattle.hw_model.specs.Rules.{fleet_in}
 use Rattle.hw_price_laws.specs.declared.toll.Block.{Block}
 use Rattle.hw_price_laws.specs.Tolls.{two_blocks}
 
@@ -20,13 +22,21 @@ SomeRuleRefutes f room = (place : ℕ) × (place < length f.rules) × Refutes f 
 
 -- ---- tugs
 
--- the tugs that are surely held in this slot of the horizon exceed the fleet
+-- the tugs that are surely held in this slot of the horizon exceed a fleet
 abbrev pub ExceedsIn : Problem → RoomModel → ℕ → List Job → ℕ → Type 0
 ExceedsIn f room fleet jobs slot = (slot < horizon f) × (fleet < sum_by (forced_by room slot) jobs)
+
+-- in the slot the job holds its tugs wherever in its range its ship sails
+abbrev pub HoldsIn : RoomModel → Job → ℕ → Type 0
+HoldsIn room job slot = (high_of room job.ship ≤ slot) × (slot < low_of room job.ship + job.hold)
 
 -- in some slot the job holds its tugs wherever in its range its ship sails
 abbrev pub HoldsSomewhere : RoomModel → Job → Type 0
 HoldsSomewhere room job = high_of room job.ship < low_of room job.ship + job.hold
+
+-- where a ship's range ends in which it surely holds its tugs, the tugs don't exceed the fleet of that slot
+abbrev pub ExceedsAtNoEnd : Problem → RoomModel → ℕ → List Step → List Job → Type 0
+ExceedsAtNoEnd f room fleet later jobs = All (λ job. HoldsSomewhere room job → ExceedsIn f room (fleet_in fleet later (high_of room job.ship)) jobs (high_of room job.ship) → ⊥) jobs
 
 -- ---- two blocks
 

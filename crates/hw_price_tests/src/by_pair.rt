@@ -195,7 +195,13 @@ fn rule_refutes(flat: &Flat, room: &Room, place: u32) -> bool
 {
     match &flat.rules()[place as usize] {
         Rule::Pair { .. } | Rule::After { .. } => refuted(flat, Source::Rule { place }, None, room),
-        Rule::Tugs { fleet, jobs } => exceeded(flat, *fleet, &jobs.items, room),
+        Rule::Tugs { fleet, later, jobs } => exceeded(
+            flat,
+            *fleet,
+            &later.items,
+            &jobs.items,
+            room,
+        ),
     }
 }
 

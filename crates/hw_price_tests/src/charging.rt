@@ -107,7 +107,7 @@ fn charge_rule(costs: &mut [u128], span: Span, rule: &Rule, weights: &[u32], bus
     requires small { All (λ c. c ≤ MOST_COST) costs.old }
     requires small_price { span.price ≤ MOST_PRICE }
     requires fits { RuleFits MOST_SHIPS rule.now }
-    requires weighed { WeighsUpTo weights.now MOST_HELD rule.now }
+    requires weighed { WeighsUpTo busy weights.now MOST_HELD rule.now }
     requires small_weights { All (λ weight. weight ≤ MOST_TUGS) weights.now }
     requires in_slots { busy ≤ MOST_SLOTS }
     ensures value { PaysMore span.range (pays_for span.price (rule_charges busy weights.now (Some rule.now)) span.range.ship) costs.old costs.new }

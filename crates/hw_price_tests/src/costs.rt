@@ -154,7 +154,7 @@ fn charge_each_block(rows: &mut [Costs], price: u64, blocks: &[Block])
 fn charge_each_of_rule(rows: &mut [Costs], price: u64, rule: &Rule, weights: &[u32], busy: Slot)
     requires fits { RuleFits (length rows.old) rule.now }
     requires inside { All (λ row. busy < length row) rows.old }
-    requires weighed { WeighsUpTo weights.now MOST_HELD rule.now }
+    requires weighed { WeighsUpTo busy weights.now MOST_HELD rule.now }
     requires small_weights { All (λ weight. weight ≤ MOST_TUGS) weights.now }
     requires small_price { price ≤ MOST_PRICE }
     requires in_slots { busy ≤ MOST_SLOTS }

@@ -7,7 +7,7 @@ ghost use Rattle.hw_price_laws.specs.Judged as judged;
 use crate::by_pair::RulesByPair;
 use crate::weighing::heaviest;
 use hw_flat::{Flat, Room, Slot};
-use hw_model::{Job, MOST_FLEET, MOST_HELD, MOST_SHIPS, MOST_TUGS, NoMemory, Rule};
+use hw_model::{Job, MOST_FLEET, MOST_HELD, MOST_SHIPS, MOST_TUGS, NoMemory, Rule, fleet_in};
 use hw_price_laws::{Block, Toll};
 use std::alloc::Global;
 
@@ -16,7 +16,7 @@ const MOST_BLOCKS: usize = MOST_SHIPS as usize;
 
 /// Whether the toll is one of the problem: narrows of which each two blocks are apart, or tugs of a
 /// rule on tugs in a slot of the horizon, with a weight for each job, so that jobs which the fleet
-/// can serve together weigh no more than is said.
+/// of that slot can serve together weigh no more than is said.
 ///
 /// For narrows each rule may be asked about each two blocks, and a room's memory is taken. For tugs
 /// it costs what [`heaviest`] does. An error says that memory ran out.
@@ -71,7 +71,7 @@ fn tugs_fit(
         return Ok(false);
     }
     let rule = &flat.rules()[(restriction - shape.ships) as usize];
-    weighs_up_to(alloc, rule, weights, most)
+    weighs_up_to(alloc, rule, slot, weights, most)
 }
 
 /// Whether each weight is within its limit.
@@ -81,16 +81,28 @@ fn are_small(weights: &[u32]) -> bool
     weights.iter().all(|weight| *weight <= MOST_TUGS)
 }
 
-/// Whether the rule is one on tugs, and the jobs that its fleet can serve together weigh at most
-/// `most`.
-fn weighs_up_to(alloc: Global, rule: &Rule, weights: &[u32], most: u32) -> Result<bool, NoMemory>
+/// Whether the rule is one on tugs, and the jobs that its fleet of the slot can serve together weigh
+/// at most `most`.
+fn weighs_up_to(
+    alloc: Global,
+    rule: &Rule,
+    slot: Slot,
+    weights: &[u32],
+    most: u32,
+) -> Result<bool, NoMemory>
     requires fits { RuleFits MOST_SHIPS rule.now }
     requires small { All (λ weight. weight ≤ MOST_TUGS) weights.now }
-    ensures value { IfOk result (λ yes. IsTrue yes ↔ WeighsUpTo weights.now most rule.now) }
+    ensures value { IfOk result (λ yes. IsTrue yes ↔ WeighsUpTo slot weights.now most rule.now) }
 {
     match rule {
         Rule::Pair { .. } | Rule::After { .. } => Ok(false),
-        Rule::Tugs { fleet, jobs } => jobs_weigh(alloc, *fleet, &jobs.items, weights, most),
+        Rule::Tugs { fleet, later, jobs } => jobs_weigh(
+            alloc,
+            fleet_in(*fleet, &later.items, slot),
+            &jobs.items,
+            weights,
+            most,
+        ),
     }
 }
 

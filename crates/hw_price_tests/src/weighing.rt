@@ -1,5 +1,5 @@
 //! The greatest weight of jobs that a fleet can serve together.
-ghost use Rattle.std.specs.Prelude.{◌≡◌, ℕ, ◌+◌, ◌<◌, ◌≤◌, length, All, IfOk, slice_index};
+ghost use Rattle.std.specs.Prelude.{◌≡◌, ℕ, ◌+◌, ◌<◌, ◌≤◌, length, All, IfOk, slice_index, sum_by};
 ghost use Rattle.hw_price_laws.specs.Tolls as tolls;
 ghost use Rattle.hw_price_tests.specs.Weighing.{heaviest_with};
 
@@ -9,7 +9,8 @@ use std::alloc::Global;
 /// The greatest weight of jobs that together hold no more than this many tugs.
 ///
 /// It takes a step for each job and each number of tugs, and memory for two numbers of each number
-/// of tugs. An error says that memory ran out.
+/// of tugs: numbers up to `tugs`, but to no more than all jobs hold together. An error says that
+/// memory ran out.
 pub fn heaviest(alloc: Global, weights: &[u32], jobs: &[Job], tugs: u32) -> Result<u32, NoMemory>
     requires few { length jobs.now ≤ MOST_SHIPS }
     requires each_job { length weights.now ≡ length jobs.now }
@@ -17,8 +18,21 @@ pub fn heaviest(alloc: Global, weights: &[u32], jobs: &[Job], tugs: u32) -> Resu
     requires small_fleet { tugs ≤ MOST_FLEET }
     ensures value { IfOk result (λ most. most ≡ tolls.heaviest weights.now jobs.now tugs) }
 {
-    let most = heaviest_each(alloc, weights, jobs, tugs)?;
-    Ok(most[tugs as usize])
+    let useful = u64::from(tugs).min(all_tugs(jobs)) as u32;
+    let most = heaviest_each(alloc, weights, jobs, useful)?;
+    Ok(most[useful as usize])
+}
+
+/// The tugs of all jobs together.
+fn all_tugs(jobs: &[Job]) -> u64
+    requires few { length jobs.now ≤ MOST_SHIPS }
+    ensures value { result ≡ sum_by (λ job. job.tugs) jobs.now }
+{
+    let mut sum: u64 = 0;
+    for job in jobs {
+        sum += u64::from(job.tugs);
+    }
+    sum
 }
 
 /// The same for each number of tugs up to this one.
