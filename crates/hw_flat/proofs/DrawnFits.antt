@@ -10,7 +10,8 @@ use Rattle.hw_model.specs.declared.rule.Hole.{Hole}
 use Rattle.hw_model.specs.declared.rule.Job.{Job}
 use Rattle.hw_model.specs.declared.rule.Rule.{Rule}
 use Rattle.hw_model.specs.declared.rule.Rule.TheVariants.{Pair, Tugs}
-use Rattle.hw_model.specs.Limits.{HoleFits, JobFits, PairFits, TugsFit, RuleFits, IsFlat}
+use Rattle.hw_model.specs.declared.rule.Step.{Step}
+use Rattle.hw_model.specs.Limits.{HoleFits, JobFits, PairFits, TugsFit, RuleFits, StepFits, StepsSail, IsFlat}
 use Rattle.hw_flat.specs.Demonstration.{draw, in_turn, from_to, rise, value_drawn, row_drawn, values_drawn, pair_drawn, pairs_of_drawn, pairs_drawn, job_drawn, jobs_drawn, rules_drawn, drawn_from}
 
 -- ---- items in turn
@@ -82,8 +83,12 @@ values_counted ships slots g =
 hole_fits : (a b : ℕ) → a < 3 → b < 3 → HoleFits (record { lo = neg_ℤ (pos (1 + a)); hi = pos (1 + b) })
 hole_fits a b la lb = record { from_least = omega (arith, ints); ordered = omega (arith, ints); to_most = omega (arith, ints) }
 
-pair_fits : (ships v w : ℕ) (g : Lcg) → v < w → w < ships → All (RuleFits ships) (pair_drawn v w g).0
-pair_fits ships v w g lt le =
+-- a rule within the limits, with its steps in the slots
+abbrev RuleMade : ℕ → ℕ → Rule → Type 0
+RuleMade ships slots rule = RuleFits ships rule × StepsSail slots rule
+
+pair_fits : (ships slots v w : ℕ) (g : Lcg) → v < w → w < ships → All (RuleMade ships slots) (pair_drawn v w g).0
+pair_fits ships slots v w g lt le =
     let before = draw 3 g in
     let after = draw 3 before.1 in
     let hole : Hole = record { lo = neg_ℤ (pos (1 + before.0)); hi = pos (1 + after.0) } in
@@ -94,15 +99,15 @@ pair_fits ships v w g lt le =
       few_holes = omega arith;
       each_hole = All-cons HoleFits hole [] (hole_fits before.0 after.0 (draw_below 3 g (omega arith)) (draw_below 3 before.1 (omega arith))) (All-nil HoleFits);
     } in
-    All-cons (RuleFits ships) (Pair v w (hole ∷ [])) [] fits (All-nil (RuleFits ships))
+    All-cons (RuleMade ships slots) (Pair v w (hole ∷ [])) [] (fits, tt) (All-nil (RuleMade ships slots))
 
-after_fits : (ships v : ℕ) (g : Lcg) → v < ships → All (RuleFits ships) (pairs_of_drawn ships v g).0
-after_fits ships v g lt = each_within (RuleFits ships) (pair_drawn v) (v + 1) ships (λ w h from le. pair_fits ships v w h (omega arith) le) (v + 1) (ships - (v + 1)) g (omega arith) (omega arith)
+after_fits : (ships slots v : ℕ) (g : Lcg) → v < ships → All (RuleMade ships slots) (pairs_of_drawn ships v g).0
+after_fits ships slots v g lt = each_within (RuleMade ships slots) (pair_drawn v) (v + 1) ships (λ w h from le. pair_fits ships slots v w h (omega arith) le) (v + 1) (ships - (v + 1)) g (omega arith) (omega arith)
 
-pairs_fit : (ships : ℕ) (g : Lcg) → All (RuleFits ships) (pairs_drawn ships g).0
-pairs_fit ships g =
-    each_drawn (RuleFits ships) (pairs_of_drawn ships) ships
-    (λ v h lt. after_fits ships v h lt)
+pairs_fit : (ships slots : ℕ) (g : Lcg) → All (RuleMade ships slots) (pairs_drawn ships g).0
+pairs_fit ships slots g =
+    each_drawn (RuleMade ships slots) (pairs_of_drawn ships) ships
+    (λ v h lt. after_fits ships slots v h lt)
     g
 
 pairs_few : (ships : ℕ) (g : Lcg) → ships ≤ 40 → length (pairs_drawn ships g).0 ≤ 1_600
@@ -139,11 +144,13 @@ jobs_ascend first zero g = λ i j d lt le. absurd (omega arith)
 jobs_ascend first (suc n) g =
     AllPairs-cons (λ (a b : Job). a.ship < b.ship) (job_at first g) _ (jobs_later first (first + 1) n (job_drawn first g).1 (omega arith)) (jobs_ascend (first + 1) n (job_drawn first g).1)
 
-tugs_fit : (ships : ℕ) (g : Lcg) → 1 ≤ ships → ships ≤ 40 → TugsFit ships 4 (jobs_drawn ships g).0
+tugs_fit : (ships : ℕ) (g : Lcg) → 1 ≤ ships → ships ≤ 40 → TugsFit ships 4 [] (jobs_drawn ships g).0
 tugs_fit ships g some few =
     let all = length_drawn job_drawn 1 (λ ship h. refl) 0 (ships - 0) g in
     record {
       small_fleet = omega arith;
+      each_step = All-nil StepFits;
+      steps_ascend = λ i j d lt within. absurd (omega (arith, within));
       some_job = omega arith;
       few_jobs = omega arith;
       each_job = each_drawn (JobFits ships) job_drawn ships (job_fits ships) g;
@@ -152,15 +159,15 @@ tugs_fit ships g some few =
 
 -- ---- the problem
 
-rules_fit : (ships : ℕ) (g : Lcg) → 1 ≤ ships → ships ≤ 40 → All (RuleFits ships) (rules_drawn ships g)
-rules_fit ships g some few =
+rules_fit : (ships slots : ℕ) (g : Lcg) → 1 ≤ ships → ships ≤ 40 → All (RuleMade ships slots) (rules_drawn ships g)
+rules_fit ships slots g some few =
     let jobs = jobs_drawn ships (pairs_drawn ships g).1 in
-    All-append (RuleFits ships) (pairs_drawn ships g).0 (Tugs 4 jobs.0 ∷ []) (pairs_fit ships g)
-    (All-cons (RuleFits ships) (Tugs 4 jobs.0) [] (tugs_fit ships (pairs_drawn ships g).1 some few) (All-nil (RuleFits ships)))
+    All-append (RuleMade ships slots) (pairs_drawn ships g).0 (Tugs 4 [] jobs.0 ∷ []) (pairs_fit ships slots g)
+    (All-cons (RuleMade ships slots) (Tugs 4 [] jobs.0) [] (tugs_fit ships (pairs_drawn ships g).1 some few, All-nil (λ (step : Step). step.from < slots)) (All-nil (RuleMade ships slots)))
 
 rules_few : (ships : ℕ) (g : Lcg) → ships ≤ 40 → length (rules_drawn ships g) ≤ 4_000
 rules_few ships g few =
-    let both = length-append (pairs_drawn ships g).0 (Tugs 4 (jobs_drawn ships (pairs_drawn ships g).1).0 ∷ []) in
+    let both = length-append (pairs_drawn ships g).0 (Tugs 4 [] (jobs_drawn ships (pairs_drawn ships g).1).0 ∷ []) in
     let pairs = pairs_few ships g few in
     omega arith
 
@@ -174,7 +181,8 @@ drawn_fits g ships slots some_ship few_ships some_slot few_slots = record {
   last_value = λ ship lt may. cc;
   small_values = values_small ships slots g;
   few_rules = rules_few ships (values_drawn ships slots g).1 few_ships;
-  each_rule = rules_fit ships (values_drawn ships slots g).1 some_ship few_ships;
+  each_rule = λ k d lt. (rules_fit ships slots (values_drawn ships slots g).1 some_ship few_ships k d lt).0;
+  steps_sail = λ k d lt. (rules_fit ships slots (values_drawn ships slots g).1 some_ship few_ships k d lt).1;
 }
 
 -- a problem of what was drawn
@@ -195,4 +203,5 @@ made_fits g after ships slots values rules some_ship few_ships some_slot few_slo
       small_values = subst (All SmallValue) (sym a) fits.small_values;
       few_rules = subst (λ (rs : List Rule). length rs ≤ 4_000) (sym d) fits.few_rules;
       each_rule = subst (All (RuleFits ships)) (sym d) fits.each_rule;
+      steps_sail = subst (All (StepsSail slots)) (sym d) fits.steps_sail;
     }

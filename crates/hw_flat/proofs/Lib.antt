@@ -1,5 +1,6 @@
 pub mod Rows
 pub mod Lines
+pub mod HourRules
 pub mod TextWords
 pub mod TextRows
 pub mod WrittenWords

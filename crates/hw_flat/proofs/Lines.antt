@@ -9,7 +9,6 @@ use Rattle.hw_flat.specs.declared.fault.FlatWord.TheVariants as words
 use Rattle.hw_flat.specs.declared.fault.FlatFault.{FlatFault}
 use Rattle.hw_flat.specs.declared.fault.FlatFault.TheVariants as faults
 use Rattle.hw_flat.specs.Text.{Fault, fault, Fails, row_at, rows_at, rules_at, rule_before}
-use Rattle.hw_flat.specs.TextForms.{rule_form}
 
 abbrev Read : Type 0 → Type 0
 Read A = Result (List A × List (List ℕ)) Fault
@@ -60,48 +59,48 @@ cut_is (x ∷ y ∷ more) line rest h = cons (line, parts_of 10 rest) (x, y ∷ 
     cons a b e = let p : a ≡ b = cc in ap (λ c. c.0 ∷ c.1) (sym p)
 
 -- the rules from a line that is not `end`
-rules_step : (ships number room : ℕ) (parts : List (List ℕ)) (line rest : List ℕ) → Cut parts line rest → bytes_eq line (codes "end") ≡ false
-    → rules_at ships number room parts ≡ rule_before number room (rule_form ships line) (rules_at ships (number + 1) (room - 1) (parts_of 10 rest))
+rules_step : (form : List ℕ → Option Rule) (number room : ℕ) (parts : List (List ℕ)) (line rest : List ℕ) → Cut parts line rest → bytes_eq line (codes "end") ≡ false
+    → rules_at form number room parts ≡ rule_before number room (form line) (rules_at form (number + 1) (room - 1) (parts_of 10 rest))
 unfolding rules_at
-rules_step ships number room parts line rest cut other =
+rules_step form number room parts line rest cut other =
     let r = has_part (λ b. b == 10) rest in
     rw (cut_is parts line rest cut, r.2, other) refl
 
-pub rules_ended : (front : List Rule) (ships number room : ℕ) (parts : List (List ℕ)) (line rest : List ℕ) (total : Read Rule) → Cut parts line rest → true ≡ bytes_eq line (codes "end")
-    → prefixed front (rules_at ships number room parts) ≡ total → total ≡ Ok (front, parts_of 10 rest)
+pub rules_ended : (front : List Rule) (form : List ℕ → Option Rule) (number room : ℕ) (parts : List (List ℕ)) (line rest : List ℕ) (total : Read Rule) → Cut parts line rest → true ≡ bytes_eq line (codes "end")
+    → prefixed front (rules_at form number room parts) ≡ total → total ≡ Ok (front, parts_of 10 rest)
 unfolding rules_at
-rules_ended front ships number room parts line rest total cut end so_far =
+rules_ended front form number room parts line rest total cut end so_far =
     let r = has_part (λ b. b == 10) rest in
-    let one : prefixed front (rules_at ships number room parts) ≡ Ok (front ++ [], parts_of 10 rest) = rw (cut_is parts line rest cut, r.2, sym end) refl in
+    let one : prefixed front (rules_at form number room parts) ≡ Ok (front ++ [], parts_of 10 rest) = rw (cut_is parts line rest cut, r.2, sym end) refl in
     sym so_far ∙ one ∙ ap (λ (rs : List Rule). Ok (rs, parts_of 10 rest)) (append-nil front)
 
-pub rules_cut_off : (front : List Rule) (ships number room : ℕ) (parts : List (List ℕ)) (total : Read Rule) → first_part parts ≡ None → prefixed front (rules_at ships number room parts) ≡ total → total ≡ fault number words.Rule
+pub rules_cut_off : (front : List Rule) (form : List ℕ → Option Rule) (number room : ℕ) (parts : List (List ℕ)) (total : Read Rule) → first_part parts ≡ None → prefixed front (rules_at form number room parts) ≡ total → total ≡ fault number words.Rule
 unfolding rules_at
-rules_cut_off front ships number room [] total none so_far = sym so_far
-rules_cut_off front ships number room (x ∷ []) total none so_far = sym so_far
-rules_cut_off front ships number room (x ∷ y ∷ parts) total none so_far = absurd cc
+rules_cut_off front form number room [] total none so_far = sym so_far
+rules_cut_off front form number room (x ∷ []) total none so_far = sym so_far
+rules_cut_off front form number room (x ∷ y ∷ parts) total none so_far = absurd cc
 
-pub rules_fail : (front : List Rule) (ships number room : ℕ) (parts : List (List ℕ)) (line rest : List ℕ) (total : Read Rule) → Cut parts line rest → bytes_eq line (codes "end") ≡ false → rule_form ships line ≡ None
-    → prefixed front (rules_at ships number room parts) ≡ total → total ≡ fault number words.Rule
-rules_fail front ships number room parts line rest total cut other bad so_far =
-    let one : prefixed front (rules_at ships number room parts) ≡ fault number words.Rule = rw (rules_step ships number room parts line rest cut other, bad) refl in
+pub rules_fail : (front : List Rule) (form : List ℕ → Option Rule) (number room : ℕ) (parts : List (List ℕ)) (line rest : List ℕ) (total : Read Rule) → Cut parts line rest → bytes_eq line (codes "end") ≡ false → form line ≡ None
+    → prefixed front (rules_at form number room parts) ≡ total → total ≡ fault number words.Rule
+rules_fail front form number room parts line rest total cut other bad so_far =
+    let one : prefixed front (rules_at form number room parts) ≡ fault number words.Rule = rw (rules_step form number room parts line rest cut other, bad) refl in
     sym so_far ∙ one
 
-pub rules_too_many : (front : List Rule) (rule : Rule) (ships number room : ℕ) (parts : List (List ℕ)) (line rest : List ℕ) (total : Read Rule) → Cut parts line rest → bytes_eq line (codes "end") ≡ false → rule_form ships line ≡ Some rule → room ≡ 0
-    → prefixed front (rules_at ships number room parts) ≡ total → total ≡ fault number words.Many
-rules_too_many front rule ships number room parts line rest total cut other good full so_far =
-    let one : prefixed front (rules_at ships number room parts) ≡ fault number words.Many = rw (rules_step ships number room parts line rest cut other, good, full) refl in
+pub rules_too_many : (front : List Rule) (rule : Rule) (form : List ℕ → Option Rule) (number room : ℕ) (parts : List (List ℕ)) (line rest : List ℕ) (total : Read Rule) → Cut parts line rest → bytes_eq line (codes "end") ≡ false → form line ≡ Some rule → room ≡ 0
+    → prefixed front (rules_at form number room parts) ≡ total → total ≡ fault number words.Many
+rules_too_many front rule form number room parts line rest total cut other good full so_far =
+    let one : prefixed front (rules_at form number room parts) ≡ fault number words.Many = rw (rules_step form number room parts line rest cut other, good, full) refl in
     sym so_far ∙ one
 
-pub rules_go_on : (front more : List Rule) (rule : Rule) (ships first most : ℕ) (parts : List (List ℕ)) (line rest : List ℕ) (total : Read Rule) → Cut parts line rest → bytes_eq line (codes "end") ≡ false → rule_form ships line ≡ Some rule → length front < most
-    → more ≡ front ++ rule ∷ [] → prefixed front (rules_at ships (first + length front) (most - length front) parts) ≡ total → prefixed more (rules_at ships (first + length more) (most - length more) (parts_of 10 rest)) ≡ total
-rules_go_on front more rule ships first most parts line rest total cut other good lt grown so_far =
+pub rules_go_on : (front more : List Rule) (rule : Rule) (form : List ℕ → Option Rule) (first most : ℕ) (parts : List (List ℕ)) (line rest : List ℕ) (total : Read Rule) → Cut parts line rest → bytes_eq line (codes "end") ≡ false → form line ≡ Some rule → length front < most
+    → more ≡ front ++ rule ∷ [] → prefixed front (rules_at form (first + length front) (most - length front) parts) ≡ total → prefixed more (rules_at form (first + length more) (most - length more) (parts_of 10 rest)) ≡ total
+rules_go_on front more rule form first most parts line rest total cut other good lt grown so_far =
     let k : most - length front ≡ suc (most - (length front + 1)) = omega arith in
     let n : (first + length front) + 1 ≡ first + (length front + 1) = omega arith in
     let before : suc (most - (length front + 1)) - 1 ≡ most - (length front + 1) = omega arith in
     let size : length more ≡ length front + 1 = ap length grown ∙ length_push front rule in
-    let step : rules_at ships (first + length front) (suc (most - (length front + 1))) parts ≡ rule_before (first + length front) (suc (most - (length front + 1))) (Some rule) (rules_at ships (first + (length front + 1)) (most - (length front + 1)) (parts_of 10 rest)) =
-    rw (rules_step ships (first + length front) (suc (most - (length front + 1))) parts line rest cut other, good, n, before) refl in
-    let one : prefixed front (rules_at ships (first + length front) (most - length front) parts) ≡ prefixed (front ++ rule ∷ []) (rules_at ships (first + (length front + 1)) (most - (length front + 1)) (parts_of 10 rest)) =
-    rw (k, step) (regroup front (rule ∷ []) (rules_at ships (first + (length front + 1)) (most - (length front + 1)) (parts_of 10 rest))) in
+    let step : rules_at form (first + length front) (suc (most - (length front + 1))) parts ≡ rule_before (first + length front) (suc (most - (length front + 1))) (Some rule) (rules_at form (first + (length front + 1)) (most - (length front + 1)) (parts_of 10 rest)) =
+    rw (rules_step form (first + length front) (suc (most - (length front + 1))) parts line rest cut other, good, n, before) refl in
+    let one : prefixed front (rules_at form (first + length front) (most - length front) parts) ≡ prefixed (front ++ rule ∷ []) (rules_at form (first + (length front + 1)) (most - (length front + 1)) (parts_of 10 rest)) =
+    rw (k, step) (regroup front (rule ∷ []) (rules_at form (first + (length front + 1)) (most - (length front + 1)) (parts_of 10 rest))) in
     rw (size, grown) (sym one ∙ so_far)

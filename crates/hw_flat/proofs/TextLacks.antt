@@ -10,11 +10,13 @@ use Rattle.hw_model.specs.declared.rule.Hole.{Hole}
 use Rattle.hw_model.specs.declared.rule.Job.{Job}
 use Rattle.hw_model.specs.declared.rule.Rule.{Rule}
 use Rattle.hw_model.specs.declared.rule.Rule.TheVariants.{Pair, After, Tugs}
-use Rattle.hw_model.specs.Limits.{HoleFits, JobFits, RuleFits}
+use Rattle.hw_model.specs.declared.rule.Step.{Step}
+use Rattle.hw_model.specs.Limits.{HoleFits, JobFits, RuleFits, StepsSail}
 use Rattle.hw_text.specs.Numbers.{is_digit}
 use Rattle.hw_text.specs.Parts.{lacks}
 use Rattle.hw_text.proofs.Digits.{own}
-use Rattle.hw_flat.specs.TextWritten.{value_text, stay_text, row_texts, hole_text, job_text, rule_texts}
+use Rattle.hw_flat.specs.TextWritten.{value_text, stay_text, row_texts, hole_text, job_text, step_text, tugs_key, rule_texts}
+use Rattle.hw_flat.proofs.HourRules.{StepIn}
 
 -- a byte that no word of a problem has
 pub record Apart (c : ℕ) : Type 0 where
@@ -24,15 +26,16 @@ pub record Apart (c : ℕ) : Type 0 where
   pub pair : (112 == c) ≡ false
   pub after : (115 == c) ≡ false
   pub tugs : (117 == c) ≡ false
+  pub hours : (104 == c) ≡ false
   pub row : (118 == c) ≡ false
   pub may : (121 == c) ≡ false
   pub must : (110 == c) ≡ false
 
 pub apart_space : Apart 32
-apart_space = record { digit = refl; minus = refl; colon = refl; pair = refl; after = refl; tugs = refl; row = refl; may = refl; must = refl }
+apart_space = record { digit = refl; minus = refl; colon = refl; pair = refl; after = refl; tugs = refl; hours = refl; row = refl; may = refl; must = refl }
 
 pub apart_end : Apart 10
-apart_end = record { digit = refl; minus = refl; colon = refl; pair = refl; after = refl; tugs = refl; row = refl; may = refl; must = refl }
+apart_end = record { digit = refl; minus = refl; colon = refl; pair = refl; after = refl; tugs = refl; hours = refl; row = refl; may = refl; must = refl }
 
 head_lacks : (c x : ℕ) (xs : List ℕ) → (x == c) ≡ false → lacks c xs ≡ true → lacks c (x ∷ xs) ≡ true
 head_lacks c x xs e h = and_from _ _ (ap not e) h
@@ -88,19 +91,31 @@ texts_lack : {A : Type 0} (c : ℕ) (text : A → List ℕ) (Fits : A → Type 0
 texts_lack c text Fits each [] h = refl
 texts_lack c text Fits each (x ∷ xs) h = and_from _ _ (each x (All-head Fits x xs h)) (texts_lack c text Fits each xs (All-tail Fits x xs h))
 
+-- the parts of a step
+pub step_parts_lack : (c slots : ℕ) (step : Step) → is_digit c ≡ false → slots ≤ 512 → StepIn slots step → list_all (lacks c) (decimal step.from ∷ decimal step.fleet ∷ []) ≡ true
+step_parts_lack c slots step other few fits =
+    and_from _ _ (number_lacks c step.from other (omega (arith, fits.1, few))) (and_from _ _ (number_lacks c step.fleet other (omega (arith, fits.0.small_fleet))) refl)
+
+key_lacks : (c : ℕ) (later : List Step) → Apart c → lacks c (tugs_key later) ≡ true
+key_lacks c [] a = head_lacks c 117 [] a.tugs refl
+key_lacks c (step ∷ later) a = head_lacks c 104 [] a.hours refl
+
 -- the words of a rule
-pub rule_lacks : (c ships : ℕ) (rule : Rule) → Apart c → ships ≤ 40 → RuleFits ships rule → list_all (lacks c) (rule_texts rule) ≡ true
-rule_lacks c ships (Pair v w holes) a few fits =
+pub rule_lacks : (c ships slots : ℕ) (rule : Rule) → Apart c → ships ≤ 40 → slots ≤ 512 → RuleFits ships rule → StepsSail slots rule → list_all (lacks c) (rule_texts rule) ≡ true
+rule_lacks c ships slots (Pair v w holes) a few few' fits sails =
     and_from _ _ (head_lacks c 112 [] a.pair refl)
     (and_from _ _ (number_lacks c v a.digit (omega (arith, fits.ascends, fits.ship_in, few)))
     (and_from _ _ (number_lacks c w a.digit (omega (arith, fits.ship_in, few))) (texts_lack c hole_text HoleFits (λ hole h. joined_lacks c 58 (signed_decimal hole.lo ∷ signed_decimal hole.hi ∷ []) a.colon (hole_parts_lack c hole a.digit a.minus h)) holes fits.each_hole)))
-rule_lacks c ships (After v w gap) a few fits =
+rule_lacks c ships slots (After v w gap) a few few' fits sails =
     and_from _ _ (head_lacks c 115 [] a.after refl)
     (and_from _ _ (number_lacks c v a.digit (omega (arith, fits.first_in, few)))
     (and_from _ _ (number_lacks c w a.digit (omega (arith, fits.second_in, few))) (and_from _ _ (number_lacks c gap a.digit (omega (arith, fits.short_gap))) refl)))
-rule_lacks c ships (Tugs fleet later jobs) a few fits =
-    and_from _ _ (head_lacks c 117 [] a.tugs refl)
-    (and_from _ _ (number_lacks c fleet a.digit (omega (arith, fits.small_fleet))) (texts_lack c job_text (JobFits ships) (λ job h. joined_lacks c 58 (decimal job.ship ∷ decimal job.tugs ∷ decimal job.hold ∷ []) a.colon (job_parts_lack c ships job a.digit few h)) jobs fits.each_job))
+rule_lacks c ships slots (Tugs fleet later jobs) a few few' fits sails =
+    and_from _ _ (key_lacks c later a)
+    (and_from _ _ (number_lacks c fleet a.digit (omega (arith, fits.small_fleet)))
+    (list_all-append _ (map step_text later) (map job_text jobs)
+    (texts_lack c step_text (StepIn slots) (λ step h. joined_lacks c 58 (decimal step.from ∷ decimal step.fleet ∷ []) a.colon (step_parts_lack c slots step a.digit few' h)) later (λ k d lt. (fits.each_step k d lt, sails k d lt)))
+    (texts_lack c job_text (JobFits ships) (λ job h. joined_lacks c 58 (decimal job.ship ∷ decimal job.tugs ∷ decimal job.hold ∷ []) a.colon (job_parts_lack c ships job a.digit few h)) jobs fits.each_job)))
 
 -- the words of a row
 value_lacks : (c : ℕ) (value : Option ℕ) → Apart c → unwrap_or value 0 ≤ 1_000_000_000_000 → lacks c (value_text value) ≡ true

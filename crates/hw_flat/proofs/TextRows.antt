@@ -5,7 +5,7 @@ use Rattle.std.proofs.lemmas.List.{take_at, drop_at, length-append}
 use Rattle.std.proofs.lemmas.List.Elements.{All-nil, All-cons, All-append}
 use Rattle.hw_lemmas.specs.Operators.{◌>>=◌}
 use Rattle.hw_model.specs.declared.rule.Rule.{Rule}
-use Rattle.hw_model.specs.Limits.{RuleFits, IsFlat}
+use Rattle.hw_model.specs.Limits.{StepsSail, IsFlat}
 use Rattle.hw_model.specs.Problem.{Problem, horizon}
 use Rattle.hw_text.specs.Numbers.{number_up_to, number_from_to}
 use Rattle.hw_text.specs.Parts.{first_part, words_of, at_end}
@@ -13,9 +13,10 @@ use Rattle.hw_text.proofs.Spelled.{is_spelled}
 use Rattle.hw_text.proofs.Signs.{from_to_is}
 use Rattle.hw_flat.specs.declared.fault.FlatWord.{FlatWord}
 use Rattle.hw_flat.specs.declared.fault.FlatWord.TheVariants as words
-use Rattle.hw_flat.specs.Text.{Fault, fault, formed, line_at, row_at, rows_at, rule_before, rules_at, problem_of, problem_of_lines}
-use Rattle.hw_flat.specs.TextForms.{header_form, both, size_words, size_form, value_word, stay_word, last_values, row_values, row_words, row_form, rule_form}
+use Rattle.hw_flat.specs.Text.{Fault, fault, formed, line_at, row_at, rows_at, rule_before, rules_at, hours_needed, problem_of, closed, problem_of_lines}
+use Rattle.hw_flat.specs.TextForms.{header_form, both, size_words, size_form, value_word, stay_word, last_values, row_values, row_words, row_form, rule_form, any_hours}
 use Rattle.hw_flat.specs.TextWritten.{header_text, size_text, value_text, stay_text, row_texts, row_text, rule_text, rows_in, problem_lines, IsWritable}
+use Rattle.hw_flat.proofs.HourRules.{RuleIn, hours_are}
 use Rattle.hw_flat.proofs.TextWords.{bound, first_read, same_text, rejoined, rule_read}
 
 abbrev Row : Type 0
@@ -228,40 +229,53 @@ before_read number room None read x h = absurd cc
 before_read number zero (Some rule) read x h = absurd cc
 before_read number (suc room) (Some rule) read x h = (rule, omega arith, refl, h)
 
-abbrev RulesRead : ℕ → ℕ → List (List ℕ) → List Rule × List (List ℕ) → Type 0
-RulesRead ships room parts x = (parts ≡ map rule_text x.0 ++ codes "end" ∷ x.1) × All (RuleFits ships) x.0 × (length x.0 ≤ room)
+abbrev RulesRead : Bool → ℕ → ℕ → ℕ → List (List ℕ) → List Rule × List (List ℕ) → Type 0
+RulesRead hours ships slots room parts x = (parts ≡ map rule_text x.0 ++ codes "end" ∷ x.1) × All (RuleIn hours ships slots) x.0 × (length x.0 ≤ room)
 
-pub rules_read : (ships number room : ℕ) (parts : List (List ℕ)) (x : List Rule × List (List ℕ)) → ships ≤ 40 → rules_at ships number room parts ≡ Ok x → RulesRead ships room parts x
+pub rules_read : (hours : Bool) (ships slots number room : ℕ) (parts : List (List ℕ)) (x : List Rule × List (List ℕ)) → ships ≤ 40 → slots ≤ 512 → rules_at (rule_form hours ships slots) number room parts ≡ Ok x → RulesRead hours ships slots room parts x
 unfolding rules_at
-rules_read ships number room [] x few h = absurd cc
-rules_read ships number room (line ∷ []) x few h = absurd cc
-rules_read ships number room (line ∷ next ∷ parts) x few h =
-    elim (bytes_eq line (codes "end")) as (λ b. bytes_eq line (codes "end") ≡ b → cond b (Ok ([], next ∷ parts)) (rule_before number room (rule_form ships line) (rules_at ships (number + 1) (room - 1) (next ∷ parts))) ≡ Ok x → RulesRead ships room (line ∷ next ∷ parts) x) [
-      | true ↦ λ e k. subst (RulesRead ships room (line ∷ next ∷ parts)) (is_ok ([], next ∷ parts) x k) (ap (λ l. l ∷ next ∷ parts) (same_text _ _ e), All-nil (RuleFits ships), omega arith)
+rules_read hours ships slots number room [] x few few' h = absurd cc
+rules_read hours ships slots number room (line ∷ []) x few few' h = absurd cc
+rules_read hours ships slots number room (line ∷ next ∷ parts) x few few' h =
+    let form : List ℕ → Option Rule = rule_form hours ships slots in
+    let Fits : Rule → Type 0 = RuleIn hours ships slots in
+    elim (bytes_eq line (codes "end")) as (λ b. bytes_eq line (codes "end") ≡ b → cond b (Ok ([], next ∷ parts)) (rule_before number room (form line) (rules_at form (number + 1) (room - 1) (next ∷ parts))) ≡ Ok x → RulesRead hours ships slots room (line ∷ next ∷ parts) x) [
+      | true ↦ λ e k. subst (RulesRead hours ships slots room (line ∷ next ∷ parts)) (is_ok ([], next ∷ parts) x k) (ap (λ l. l ∷ next ∷ parts) (same_text _ _ e), All-nil Fits, omega arith)
       | false ↦ λ _ k.
-          let b = before_read number room (rule_form ships line) (rules_at ships (number + 1) (room - 1) (next ∷ parts)) x k in
-          let r = rule_read ships line b.0 few b.2 in
-          let s = step (rules_at ships (number + 1) (room - 1) (next ∷ parts)) _ x b.3 in
-          let more = rules_read ships (number + 1) (room - 1) (next ∷ parts) s.0 few s.1 in
+          let b = before_read number room (form line) (rules_at form (number + 1) (room - 1) (next ∷ parts)) x k in
+          let r = rule_read hours ships slots line b.0 few few' b.2 in
+          let s = step (rules_at form (number + 1) (room - 1) (next ∷ parts)) _ x b.3 in
+          let more = rules_read hours ships slots (number + 1) (room - 1) (next ∷ parts) s.0 few few' s.1 in
           let count : length s.0.0 ≤ room - 1 = more.2 in
-          subst (RulesRead ships room (line ∷ next ∷ parts)) (is_ok (b.0 ∷ s.0.0, s.0.1) x s.2) (ap₂ ◌∷◌ r.0 more.0, All-cons (RuleFits ships) b.0 s.0.0 r.1 more.1, omega (arith, count, b.1))
+          subst (RulesRead hours ships slots room (line ∷ next ∷ parts)) (is_ok (b.0 ∷ s.0.0, s.0.1) x s.2) (ap₂ ◌∷◌ r.0 more.0, All-cons Fits b.0 s.0.0 r.1 more.1, omega (arith, count, b.1))
     ] refl h
 
 -- ---- the whole text
 
-header_read : (line : List ℕ) (stay : Bool) → header_form line ≡ Some stay → line ≡ header_text stay
-header_read line stay h =
-    elim (bytes_eq line (codes "flat 1")) as (λ b. bytes_eq line (codes "flat 1") ≡ b → cond b (Some false) (cond (bytes_eq line (codes "flat 2")) (Some true) None) ≡ Some stay → line ≡ header_text stay) [
-      | true ↦ λ e k. same_text _ _ e ∙ ap header_text (is_some false stay k)
+header_read : (line : List ℕ) (version : Bool × Bool) → header_form line ≡ Some version → line ≡ header_text version.0 version.1
+header_read line version h =
+    elim (bytes_eq line (codes "flat 1")) as (λ b. bytes_eq line (codes "flat 1") ≡ b → cond b (Some (false, false)) (cond (bytes_eq line (codes "flat 2")) (Some (true, false)) (cond (bytes_eq line (codes "flat 3")) (Some (false, true)) (cond (bytes_eq line (codes "flat 4")) (Some (true, true)) None))) ≡ Some version → line ≡ header_text version.0 version.1) [
+      | true ↦ λ e k. told (false, false) k (same_text _ _ e)
       | false ↦ λ _ j.
-          elim (bytes_eq line (codes "flat 2")) as (λ b. bytes_eq line (codes "flat 2") ≡ b → cond b (Some true) None ≡ Some stay → line ≡ header_text stay) [
-            | true ↦ λ e k. same_text _ _ e ∙ ap header_text (is_some true stay k)
-            | false ↦ λ e k. absurd cc
+          elim (bytes_eq line (codes "flat 2")) as (λ b. bytes_eq line (codes "flat 2") ≡ b → cond b (Some (true, false)) (cond (bytes_eq line (codes "flat 3")) (Some (false, true)) (cond (bytes_eq line (codes "flat 4")) (Some (true, true)) None)) ≡ Some version → line ≡ header_text version.0 version.1) [
+            | true ↦ λ e k. told (true, false) k (same_text _ _ e)
+            | false ↦ λ _ i.
+                elim (bytes_eq line (codes "flat 3")) as (λ b. bytes_eq line (codes "flat 3") ≡ b → cond b (Some (false, true)) (cond (bytes_eq line (codes "flat 4")) (Some (true, true)) None) ≡ Some version → line ≡ header_text version.0 version.1) [
+                  | true ↦ λ e k. told (false, true) k (same_text _ _ e)
+                  | false ↦ λ _ l.
+                      elim (bytes_eq line (codes "flat 4")) as (λ b. bytes_eq line (codes "flat 4") ≡ b → cond b (Some (true, true)) None ≡ Some version → line ≡ header_text version.0 version.1) [
+                        | true ↦ λ e k. told (true, true) k (same_text _ _ e)
+                        | false ↦ λ e k. absurd cc
+                      ] refl l
+                ] refl i
           ] refl j
     ] refl h
   where
-    is_some : (x y : Bool) → Some x ≡ Some y → x ≡ y
+    is_some : (x y : Bool × Bool) → Some x ≡ Some y → x ≡ y
     is_some x y k = cc
+
+    told : (x : Bool × Bool) → Some x ≡ Some version → line ≡ header_text x.0 x.1 → line ≡ header_text version.0 version.1
+    told x k e = e ∙ ap (λ y. header_text y.0 y.1) (is_some x version k)
 
 -- the limits of the numbers of ships and slots
 record SizeRead (line : List ℕ) (size : ℕ × ℕ) : Type 0 where
@@ -310,11 +324,11 @@ nothing_left ([] ∷ []) h = refl
 nothing_left ([] ∷ p ∷ parts) h = absurd cc
 nothing_left ((x ∷ xs) ∷ parts) h = absurd cc
 
-problem_read : (parts : List (List ℕ)) (stay : Bool) (size : ℕ × ℕ) (values : Row) (rules : List Rule) (first second : List ℕ) (rest third : List (List ℕ)) → first ≡ header_text stay → SizeRead second size
+problem_read : (parts : List (List ℕ)) (stay hours : Bool) (size : ℕ × ℕ) (values : Row) (rules : List Rule) (first second : List ℕ) (rest third : List (List ℕ)) → first ≡ header_text stay hours → SizeRead second size
     → parts ≡ first ∷ rest → rest ≡ second ∷ third → third ≡ map (row_text size.1) (rows_in size.0 (width stay size.1) values) ++ (map rule_text rules ++ codes "end" ∷ [] ∷ [])
-    → RowsFit stay size.1 size.0 values → All (RuleFits size.0) rules → length rules ≤ 4_000 → TextRead parts (problem_of stay size values rules)
-problem_read parts stay size values rules first second rest third header z p q t fits each few = record {
-  lines = p ∙ ap₂ ◌∷◌ header (q ∙ ap₂ ◌∷◌ (z.text ∙ ap (size_text size.0) (sym same)) (t ∙ body ∙ ap (λ n. map (row_text n) (rows_in size.0 (width stay size.1) values) ++ map rule_text rules ++ codes "end" ∷ [] ++ [] ∷ []) (sym same)));
+    → RowsFit stay size.1 size.0 values → All (RuleIn hours size.0 size.1) rules → any_hours rules ≡ hours → length rules ≤ 4_000 → TextRead parts (problem_of stay size values rules)
+problem_read parts stay hours size values rules first second rest third header z p q t fits each told few = record {
+  lines = p ∙ ap₂ ◌∷◌ (header ∙ ap (header_text stay) (sym told)) (q ∙ ap₂ ◌∷◌ (z.text ∙ ap (size_text size.0) (sym same)) (t ∙ body ∙ ap (λ n. map (row_text n) (rows_in size.0 (width stay size.1) values) ++ map rule_text rules ++ codes "end" ∷ [] ++ [] ∷ []) (sym same)));
   limits = record {
     some_ship = z.some_ship;
     few_ships = z.few_ships;
@@ -324,7 +338,8 @@ problem_read parts stay size values rules first second rest third header z p q t
     last_value = λ ship lt s. let e = last ship lt s in omega (arith, e);
     small_values = fits.small;
     few_rules = few;
-    each_rule = each;
+    each_rule = λ k d lt. (each k d lt).fits;
+    steps_sail = subst (λ n. All (StepsSail n) rules) (sym same) (λ k d lt. (each k d lt).sails);
   };
   writable = last;
 }
@@ -340,6 +355,19 @@ problem_read parts stay size values rules first second rest third header z p q t
         sym (append_assoc (map (row_text size.1) (rows_in size.0 (width stay size.1) values)) (map rule_text rules) (codes "end" ∷ [] ∷ []))
         ∙ sym (append_assoc (map (row_text size.1) (rows_in size.0 (width stay size.1) values) ++ map rule_text rules) (codes "end" ∷ []) ([] ∷ []))
 
+-- the end of a text that reads: a rule needs the hours that there are, and nothing is left
+closed_read : (version : Bool × Bool) (size : ℕ × ℕ) (values : Row) (rules : List Rule) (parts : List (List ℕ)) (f : Problem) → closed version size values rules parts ≡ Ok f → (hours_needed version.1 rules ≡ true) × (at_end parts ≡ true) × (problem_of version.0 size values rules ≡ f)
+closed_read version size values rules parts f h =
+    elim (hours_needed version.1 rules) as (λ n. hours_needed version.1 rules ≡ n → cond n (cond (at_end parts) (Ok (problem_of version.0 size values rules)) (fault (4 + size.0 + length rules) words.Tail)) (fault (3 + size.0 + length rules) words.Rule) ≡ Ok f
+    → (hours_needed version.1 rules ≡ true) × (at_end parts ≡ true) × (problem_of version.0 size values rules ≡ f)) [
+      | true ↦ λ needed j.
+          elim (at_end parts) as (λ t. at_end parts ≡ t → cond t (Ok (problem_of version.0 size values rules)) (fault (4 + size.0 + length rules) words.Tail) ≡ Ok f → (hours_needed version.1 rules ≡ true) × (at_end parts ≡ true) × (problem_of version.0 size values rules ≡ f)) [
+            | true ↦ λ e k. (needed, e, is_ok (problem_of version.0 size values rules) f k)
+            | false ↦ λ e k. absurd (not_fault _ f k)
+          ] refl j
+      | false ↦ λ e k. absurd (not_fault _ f k)
+    ] refl h
+
 pub text_read : (parts : List (List ℕ)) (f : Problem) → problem_of_lines parts ≡ Ok f → TextRead parts f
 unfolding problem_of_lines
 text_read parts f h =
@@ -348,22 +376,19 @@ text_read parts f h =
     let b = step (line_at 2 words.Size a.0.1) _ f s.2 in
     let z = step (formed 2 words.Size (size_form b.0.0)) _ f b.2 in
     let size = size_read b.0.0 z.0 (is_formed 2 words.Size (size_form b.0.0) z.0 z.1) in
-    let r = step (rows_at s.0 z.0.1 3 z.0.0 b.0.1) _ f z.2 in
-    let rows = rows_read s.0 z.0.1 3 z.0.0 b.0.1 r.0 r.1 in
-    let u = step (rules_at z.0.0 (3 + z.0.0) 4_000 r.0.1) _ f r.2 in
-    let rules = rules_read z.0.0 (3 + z.0.0) 4_000 r.0.1 u.0 size.few_ships u.1 in
-    elim (at_end u.0.1) as (λ t. at_end u.0.1 ≡ t → cond t (Ok (problem_of s.0 z.0 r.0.0 u.0.0)) (fault (4 + z.0.0 + length u.0.0) words.Tail) ≡ Ok f → TextRead parts f) [
-      | true ↦ λ e k.
-          let header = header_read a.0.0 s.0 (is_formed 1 words.Header (header_form a.0.0) s.0 s.1) in
-          let third : b.0.1 ≡ map (row_text z.0.1) (rows_in z.0.0 (width s.0 z.0.1) r.0.0) ++ (map rule_text u.0.0 ++ codes "end" ∷ [] ∷ []) =
-          rows.0 ∙ ap (λ ps. map (row_text z.0.1) (rows_in z.0.0 (width s.0 z.0.1) r.0.0) ++ ps) (rules.0 ∙ ap (λ ps. map rule_text u.0.0 ++ codes "end" ∷ ps) (nothing_left u.0.1 e)) in
-          subst (TextRead parts) (is_ok (problem_of s.0 z.0 r.0.0 u.0.0) f k)
-          (problem_read parts s.0 z.0 r.0.0 u.0.0 a.0.0 b.0.0 a.0.1 b.0.1 header size (is_line 1 words.Header parts a.0 a.1) (is_line 2 words.Size a.0.1 b.0 b.1) third rows.1 rules.1 rules.2)
-      | false ↦ λ e k. absurd (not_fault _ f k)
-    ] refl u.2
+    let r = step (rows_at s.0.0 z.0.1 3 z.0.0 b.0.1) _ f z.2 in
+    let rows = rows_read s.0.0 z.0.1 3 z.0.0 b.0.1 r.0 r.1 in
+    let u = step (rules_at (rule_form s.0.1 z.0.0 z.0.1) (3 + z.0.0) 4_000 r.0.1) _ f r.2 in
+    let rules = rules_read s.0.1 z.0.0 z.0.1 (3 + z.0.0) 4_000 r.0.1 u.0 size.few_ships size.few_slots u.1 in
+    let end = closed_read s.0 z.0 r.0.0 u.0.0 u.0.1 f u.2 in
+    let header = header_read a.0.0 s.0 (is_formed 1 words.Header (header_form a.0.0) s.0 s.1) in
+    let third : b.0.1 ≡ map (row_text z.0.1) (rows_in z.0.0 (width s.0.0 z.0.1) r.0.0) ++ (map rule_text u.0.0 ++ codes "end" ∷ [] ∷ []) =
+    rows.0 ∙ ap (λ ps. map (row_text z.0.1) (rows_in z.0.0 (width s.0.0 z.0.1) r.0.0) ++ ps) (rules.0 ∙ ap (λ ps. map rule_text u.0.0 ++ codes "end" ∷ ps) (nothing_left u.0.1 end.1)) in
+    subst (TextRead parts) end.2
+    (problem_read parts s.0.0 s.0.1 z.0 r.0.0 u.0.0 a.0.0 b.0.0 a.0.1 b.0.1 header size (is_line 1 words.Header parts a.0 a.1) (is_line 2 words.Size a.0.1 b.0 b.1) third rows.1 rules.1 (hours_are s.0.1 z.0.0 z.0.1 u.0.0 rules.1 end.0) rules.2)
 
-pub text_is : (parts : List (List ℕ)) (first : List ℕ) (rest : List (List ℕ)) (stay : Bool) (second : List ℕ) (third : List (List ℕ)) (size : ℕ × ℕ) (values : Row) (fourth : List (List ℕ)) (rules : List Rule) (fifth : List (List ℕ)) → line_at 1 words.Header parts ≡ Ok (first, rest)
-    → header_form first ≡ Some stay → line_at 2 words.Size rest ≡ Ok (second, third) → size_form second ≡ Some size → rows_at stay size.1 3 size.0 third ≡ Ok (values, fourth) → rules_at size.0 (3 + size.0) 4_000 fourth ≡ Ok (rules, fifth) → at_end fifth ≡ true
-    → problem_of_lines parts ≡ Ok (problem_of stay size values rules)
+pub text_is : (parts : List (List ℕ)) (first : List ℕ) (rest : List (List ℕ)) (version : Bool × Bool) (second : List ℕ) (third : List (List ℕ)) (size : ℕ × ℕ) (values : Row) (fourth : List (List ℕ)) (rules : List Rule) (fifth : List (List ℕ)) → line_at 1 words.Header parts ≡ Ok (first, rest)
+    → header_form first ≡ Some version → line_at 2 words.Size rest ≡ Ok (second, third) → size_form second ≡ Some size → rows_at version.0 size.1 3 size.0 third ≡ Ok (values, fourth) → rules_at (rule_form version.1 size.0 size.1) (3 + size.0) 4_000 fourth ≡ Ok (rules, fifth)
+    → hours_needed version.1 rules ≡ true → at_end fifth ≡ true → problem_of_lines parts ≡ Ok (problem_of version.0 size values rules)
 unfolding problem_of_lines
-text_is parts first rest stay second third size values fourth rules fifth a b c d e f g = rw (a, b, c, d, e, f, g) refl
+text_is parts first rest version second third size values fourth rules fifth a b c d e f n g = rw (a, b, c, d, e, f, n, g) refl

@@ -1,5 +1,5 @@
 -- What the words of a line are where they have its form: the words of what they say, which keeps the limits.
-use Rattle.std.proofs.Common.{◌≡◌, ℕ, zero, suc, ◌+◌, ◌<◌, ◌≤◌, ◌≢◌, ◌||◌, Bool, true, false, cond, List, [], ◌∷◌, map, length, Option, Some, None, refl, sym, ap, ◌∙◌, subst, arith, inl, inr, codes, decimal, bytes_eq, All, AllPairs, nat_lt}
+use Rattle.std.proofs.Common.{◌≡◌, ℕ, zero, suc, ◌+◌, ◌<◌, ◌≤◌, ◌≢◌, ◌||◌, ◌&&◌, ◌++◌, Bool, true, false, cond, List, [], ◌∷◌, map, length, Option, Some, None, refl, sym, ap, ◌∙◌, subst, arith, inl, inr, codes, decimal, bytes_eq, All, AllPairs, nat_lt}
 use Rattle.std.proofs.Math.Path.{ap₂}
 use Rattle.std.proofs.lemmas.Bool.{ltb-true, leb-true, and_parts, or_cases}
 use Rattle.std.proofs.lemmas.List.Elements.{All-nil, All-cons}
@@ -13,13 +13,15 @@ use Rattle.std.specs.List.{join_with_byte}
 use Rattle.hw_model.specs.declared.rule.Hole.{Hole}
 use Rattle.hw_model.specs.declared.rule.Job.{Job}
 use Rattle.hw_model.specs.declared.rule.Rule.{Rule}
-use Rattle.hw_model.specs.Limits.{HoleFits, JobFits, RuleFits}
+use Rattle.hw_model.specs.declared.rule.Step.{Step}
+use Rattle.hw_model.specs.Limits.{HoleFits, JobFits, StepFits}
 use Rattle.hw_text.specs.Numbers.{number_up_to, number_from_to, signed_up_to}
 use Rattle.hw_text.specs.Parts.{parts_of, words_of}
 use Rattle.hw_text.proofs.Spelled.{is_spelled}
 use Rattle.hw_text.proofs.Signs.{is_signed, from_to_is}
-use Rattle.hw_flat.specs.TextForms.{◌and_then◌, kept_if, put_first, ship_word, hole_parts, hole_form, job_parts, job_form, items_of, some_items, ascend_from, pair_words, after_words, tugs_words, rule_words, rule_form}
-use Rattle.hw_flat.specs.TextWritten.{hole_text, job_text, rule_texts, rule_text}
+use Rattle.hw_flat.specs.TextForms.{◌and_then◌, kept_if, put_first, ship_word, hole_parts, hole_form, job_parts, job_form, items_of, some_items, ascend_from, pair_words, after_words, most_fleet, tugs_words, step_parts, step_form, put_front, front_items, steps_ascend_from, some_ascending, with_jobs, hours_words, rule_words, rule_form}
+use Rattle.hw_flat.specs.TextWritten.{hole_text, job_text, step_text, rule_texts, rule_text}
+use Rattle.hw_flat.proofs.HourRules.{StepIn, RuleIn, fleet_told, most_small}
 
 -- a step of a chain that gave something, and what came of it
 pub bound : {A B : Type 0} (o : Option A) (f : A → Option B) (y : B) → (o and_then f) ≡ Some y → (x : A) × (o ≡ Some x) × (f x ≡ Some y)
@@ -132,13 +134,53 @@ ascends least (job ∷ jobs) h =
     let above : All (λ j. least ≤ j.ship) jobs = λ k d lt. let p = r.0 k d lt in omega (arith, p, le) in
     (All-cons (λ j. least ≤ j.ship) job jobs le above, AllPairs-cons (λ a b. a.ship < b.ship) job jobs later r.1)
 
-abbrev RuleRead : ℕ → List (List ℕ) → Rule → Type 0
-RuleRead ships words rule = (words ≡ rule_texts rule) × RuleFits ships rule
+-- ascending slots
+steps_ascend : (least : ℕ) (steps : List Step) → steps_ascend_from least steps ≡ true → All (λ s. least ≤ s.from) steps × AllPairs (λ a b. a.from < b.from) steps
+steps_ascend least [] h = (All-nil _, λ i j d lt within. absurd (omega (arith, within)))
+steps_ascend least (step ∷ steps) h =
+    let a = and_parts _ _ h in
+    let le : least ≤ step.from = leb-true _ _ a.0 in
+    let r = steps_ascend (step.from + 1) steps a.1 in
+    let later : All (λ s. step.from < s.from) steps = λ k d lt. let p = r.0 k d lt in omega (arith, p) in
+    let above : All (λ s. least ≤ s.from) steps = λ k d lt. let p = r.0 k d lt in omega (arith, p, le) in
+    (All-cons (λ s. least ≤ s.from) step steps le above, AllPairs-cons (λ a b. a.from < b.from) step steps later r.1)
 
-pair_read : (ships : ℕ) (words : List (List ℕ)) (rule : Rule) → ships ≤ 40 → pair_words ships words ≡ Some rule → RuleRead ships (codes "p" ∷ words) rule
-pair_read ships [] rule few h = absurd cc
-pair_read ships (v ∷ []) rule few h = absurd cc
-pair_read ships (v ∷ w ∷ words) rule few h =
+step_parts_read : (slots : ℕ) (parts : List (List ℕ)) (step : Step) → slots ≤ 512 → step_parts slots parts ≡ Some step → (parts ≡ decimal step.from ∷ decimal step.fleet ∷ []) × StepIn slots step
+step_parts_read slots [] step few h = absurd cc
+step_parts_read slots (from ∷ []) step few h = absurd cc
+step_parts_read slots (from ∷ fleet ∷ more ∷ parts) step few h = absurd cc
+step_parts_read slots (from ∷ fleet ∷ []) step few h =
+    let a = bound (number_from_to 1 slots from) _ step h in
+    let r = from_to_is 1 slots from a.0 (omega (arith, few)) a.1 in
+    let b = bound (number_up_to 2_560 fleet) _ step a.2 in
+    let s = is_spelled 2_560 fleet b.0 (omega arith) b.1 in
+    let k = is_kept (nat_lt a.0 slots) _ step b.2 in
+    let P : Step → Type 0 = λ x. (from ∷ fleet ∷ [] ≡ decimal x.from ∷ decimal x.fleet ∷ []) × StepIn slots x in
+    let text : from ∷ fleet ∷ [] ≡ decimal a.0 ∷ decimal b.0 ∷ [] = ap₂ ◌∷◌ r.0 (ap₂ ◌∷◌ s.0 refl) in
+    subst P k.1 (text, (record { later_slot = r.1; small_fleet = s.1 }, ltb-true _ _ k.0))
+
+step_read : (slots : ℕ) (word : List ℕ) (step : Step) → slots ≤ 512 → step_form slots word ≡ Some step → (word ≡ step_text step) × StepIn slots step
+step_read slots word step few h = let r = step_parts_read slots (parts_of 58 word) step few h in (rejoined 58 word _ r.0, r.1)
+
+-- the items in front have one text each and keep the limits
+front_read : {A : Type 0} (form : List ℕ → Option A) (text : A → List ℕ) (Fits : A → Type 0) (each : (word : List ℕ) (x : A) → form word ≡ Some x → (word ≡ text x) × Fits x) (words : List (List ℕ))
+    → (words ≡ map text (front_items form words).0 ++ (front_items form words).1) × All Fits (front_items form words).0
+front_read form text Fits each [] = (refl, All-nil Fits)
+front_read {A} form text Fits each (word ∷ words) = by_form (form word) refl (front_read form text Fits each words)
+  where
+    by_form : (o : Option A) → form word ≡ o → (words ≡ map text (front_items form words).0 ++ (front_items form words).1) × All Fits (front_items form words).0 → (word ∷ words ≡ map text (put_front o word words (front_items form words)).0 ++ (put_front o word words (front_items form words)).1) × All Fits (put_front o word words (front_items form words)).0
+    by_form None e r = (refl, All-nil Fits)
+    by_form (Some x) e r =
+        let f = each word x e in
+        (ap₂ ◌∷◌ f.0 r.0, All-cons Fits x (front_items form words).0 f.1 r.1)
+
+abbrev RuleRead : Bool → ℕ → ℕ → List (List ℕ) → Rule → Type 0
+RuleRead hours ships slots words rule = (words ≡ rule_texts rule) × RuleIn hours ships slots rule
+
+pair_read : (hours : Bool) (ships slots : ℕ) (words : List (List ℕ)) (rule : Rule) → ships ≤ 40 → pair_words ships words ≡ Some rule → RuleRead hours ships slots (codes "p" ∷ words) rule
+pair_read hours ships slots [] rule few h = absurd cc
+pair_read hours ships slots (v ∷ []) rule few h = absurd cc
+pair_read hours ships slots (v ∷ w ∷ words) rule few h =
     let a = bound (ship_word ships v) _ rule h in
     let r = ship_read ships v a.0 few a.1 in
     let b = bound (ship_word ships w) _ rule a.2 in
@@ -147,14 +189,15 @@ pair_read ships (v ∷ w ∷ words) rule few h =
     let t = some_items_read hole_form hole_text HoleFits hole_read 8 words c.0 c.1 in
     let k = is_kept (nat_lt a.0 b.0) _ rule c.2 in
     let text : codes "p" ∷ v ∷ w ∷ words ≡ codes "p" ∷ decimal a.0 ∷ decimal b.0 ∷ map hole_text c.0 = ap₂ ◌∷◌ refl (ap₂ ◌∷◌ r.0 (ap₂ ◌∷◌ s.0 t.0)) in
-    subst (RuleRead ships (codes "p" ∷ v ∷ w ∷ words)) k.1 (text, record { ascends = ltb-true _ _ k.0; ship_in = s.1; some_hole = t.3; few_holes = t.2; each_hole = t.1 })
+    subst (RuleRead hours ships slots (codes "p" ∷ v ∷ w ∷ words)) k.1
+    (text, record { fits = record { ascends = ltb-true _ _ k.0; ship_in = s.1; some_hole = t.3; few_holes = t.2; each_hole = t.1 }; sails = tt; told = λ e. absurd cc })
 
-after_read : (ships : ℕ) (words : List (List ℕ)) (rule : Rule) → ships ≤ 40 → after_words ships words ≡ Some rule → RuleRead ships (codes "s" ∷ words) rule
-after_read ships [] rule few h = absurd cc
-after_read ships (v ∷ []) rule few h = absurd cc
-after_read ships (v ∷ w ∷ []) rule few h = absurd cc
-after_read ships (v ∷ w ∷ gap ∷ more ∷ words) rule few h = absurd cc
-after_read ships (v ∷ w ∷ gap ∷ []) rule few h =
+after_read : (hours : Bool) (ships slots : ℕ) (words : List (List ℕ)) (rule : Rule) → ships ≤ 40 → after_words ships words ≡ Some rule → RuleRead hours ships slots (codes "s" ∷ words) rule
+after_read hours ships slots [] rule few h = absurd cc
+after_read hours ships slots (v ∷ []) rule few h = absurd cc
+after_read hours ships slots (v ∷ w ∷ []) rule few h = absurd cc
+after_read hours ships slots (v ∷ w ∷ gap ∷ more ∷ words) rule few h = absurd cc
+after_read hours ships slots (v ∷ w ∷ gap ∷ []) rule few h =
     let a = bound (ship_word ships v) _ rule h in
     let r = ship_read ships v a.0 few a.1 in
     let b = bound (ship_word ships w) _ rule a.2 in
@@ -167,38 +210,97 @@ after_read ships (v ∷ w ∷ gap ∷ []) rule few h =
       | inr above ↦ let lt : b.0 < a.0 = ltb-true _ _ above in absurd (omega (arith, lt, same))
     ] in
     let text : codes "s" ∷ v ∷ w ∷ gap ∷ [] ≡ codes "s" ∷ decimal a.0 ∷ decimal b.0 ∷ decimal c.0 ∷ [] = ap₂ ◌∷◌ refl (ap₂ ◌∷◌ r.0 (ap₂ ◌∷◌ s.0 (ap₂ ◌∷◌ t.0 refl))) in
-    subst (RuleRead ships (codes "s" ∷ v ∷ w ∷ gap ∷ [])) k.1 (text, record { first_in = r.1; second_in = s.1; two_ships = two; short_gap = t.1 })
+    subst (RuleRead hours ships slots (codes "s" ∷ v ∷ w ∷ gap ∷ [])) k.1 (text, record { fits = record { first_in = r.1; second_in = s.1; two_ships = two; short_gap = t.1 }; sails = tt; told = λ e. absurd cc })
 
-tugs_read : (ships : ℕ) (words : List (List ℕ)) (rule : Rule) → ships ≤ 40 → tugs_words ships words ≡ Some rule → RuleRead ships (codes "u" ∷ words) rule
-tugs_read ships [] rule few h = absurd cc
-tugs_read ships (fleet ∷ words) rule few h =
-    let a = bound (number_up_to 1_000 fleet) _ rule h in
-    let r = is_spelled 1_000 fleet a.0 (omega arith) a.1 in
+tugs_read : (hours : Bool) (ships slots : ℕ) (words : List (List ℕ)) (rule : Rule) → ships ≤ 40 → tugs_words hours ships words ≡ Some rule → RuleRead hours ships slots (codes "u" ∷ words) rule
+tugs_read hours ships slots [] rule few h = absurd cc
+tugs_read hours ships slots (fleet ∷ words) rule few h =
+    let most = most_small hours in
+    let a = bound (number_up_to (most_fleet hours) fleet) _ rule h in
+    let r = is_spelled (most_fleet hours) fleet a.0 (omega (arith, most)) a.1 in
     let b = bound (some_items (job_form ships) 40 words) _ rule a.2 in
     let s = some_items_read (job_form ships) job_text (JobFits ships) (λ word job. job_read ships word job few) 40 words b.0 b.1 in
     let k = is_kept (ascend_from 0 b.0) _ rule b.2 in
     let text : codes "u" ∷ fleet ∷ words ≡ codes "u" ∷ decimal a.0 ∷ map job_text b.0 = ap₂ ◌∷◌ refl (ap₂ ◌∷◌ r.0 s.0) in
-    subst (RuleRead ships (codes "u" ∷ fleet ∷ words)) k.1 (text, record { small_fleet = r.1; some_job = s.3; few_jobs = s.2; each_job = s.1; ascends = (ascends 0 b.0 k.0).1 })
+    let small = fleet_told hours a.0 b.0 r.1 in
+    let no_step : All StepFits [] = All-nil StepFits in
+    subst (RuleRead hours ships slots (codes "u" ∷ fleet ∷ words)) k.1 (
+      text,
+      record {
+        fits = record { small_fleet = small.0; each_step = no_step; steps_ascend = λ i j d lt within. absurd (omega (arith, within)); some_job = s.3; few_jobs = s.2; each_job = s.1; ascends = (ascends 0 b.0 k.0).1 };
+        sails = All-nil (λ (step : Step). step.from < slots);
+        told = small.1;
+      },
+    )
 
-keyed : (key text : List ℕ) (words : List (List ℕ)) (ships : ℕ) (rule : Rule) → key ≡ text → RuleRead ships (text ∷ words) rule → RuleRead ships (key ∷ words) rule
-keyed key text words ships rule e r = (ap (λ x. x ∷ words) e ∙ r.0, r.1)
+-- a fleet with steps and jobs
+with_jobs_read : (ships slots fleet : ℕ) (steps : List Step) (words : List (List ℕ)) (rule : Rule) → ships ≤ 40 → fleet ≤ 2_560 → All (StepIn slots) steps → with_jobs ships fleet (steps, words) ≡ Some rule
+    → RuleRead true ships slots (codes "h" ∷ decimal fleet ∷ (map step_text steps ++ words)) rule
+with_jobs_read ships slots fleet [] words rule few small each h =
+    let b = bound (some_items (job_form ships) 40 words) _ rule h in
+    absurd (none rule b.2)
+  where
+    none : (r : Rule) → None ≡ Some r → ⊥
+    none r e = absurd cc
+with_jobs_read ships slots fleet (step ∷ later) words rule few small each h =
+    let steps : List Step = step ∷ later in
+    let b = bound (some_items (job_form ships) 40 words) _ rule h in
+    let s = some_items_read (job_form ships) job_text (JobFits ships) (λ word job. job_read ships word job few) 40 words b.0 b.1 in
+    let k = is_kept (some_ascending steps && ascend_from 0 b.0) _ rule b.2 in
+    let p = and_parts _ _ k.0 in
+    let text : codes "h" ∷ decimal fleet ∷ (map step_text steps ++ words) ≡ codes "h" ∷ decimal fleet ∷ (map step_text steps ++ map job_text b.0) = ap (λ ws. codes "h" ∷ decimal fleet ∷ (map step_text steps ++ ws)) s.0 in
+    subst (RuleRead true ships slots (codes "h" ∷ decimal fleet ∷ (map step_text steps ++ words))) k.1 (
+      text,
+      record {
+        fits = record { small_fleet = small; each_step = λ i d lt. (each i d lt).0; steps_ascend = (steps_ascend 1 steps p.0).1; some_job = s.3; few_jobs = s.2; each_job = s.1; ascends = (ascends 0 b.0 p.1).1 };
+        sails = λ i d lt. (each i d lt).1;
+        told = λ e. refl;
+      },
+    )
 
-rule_words_read : (ships : ℕ) (words : List (List ℕ)) (rule : Rule) → ships ≤ 40 → rule_words ships words ≡ Some rule → RuleRead ships words rule
-rule_words_read ships [] rule few h = absurd cc
-rule_words_read ships (key ∷ words) rule few h =
-    elim (bytes_eq key (codes "p")) as (λ b. bytes_eq key (codes "p") ≡ b → cond b (pair_words ships words) (cond (bytes_eq key (codes "s")) (after_words ships words) (cond (bytes_eq key (codes "u")) (tugs_words ships words) None)) ≡ Some rule → RuleRead ships (key ∷ words) rule) [
-      | true ↦ λ e k. keyed _ _ words ships rule (same_text _ _ e) (pair_read ships words rule few k)
+hours_read : (ships slots : ℕ) (words : List (List ℕ)) (rule : Rule) → ships ≤ 40 → slots ≤ 512 → hours_words ships slots words ≡ Some rule → RuleRead true ships slots (codes "h" ∷ words) rule
+hours_read ships slots [] rule few few' h = absurd cc
+hours_read ships slots (fleet ∷ words) rule few few' h =
+    let a = bound (number_up_to 2_560 fleet) _ rule h in
+    let r = is_spelled 2_560 fleet a.0 (omega arith) a.1 in
+    let front = front_items (step_form slots) words in
+    let f = front_read (step_form slots) step_text (StepIn slots) (λ word step. step_read slots word step few') words in
+    let j = with_jobs_read ships slots a.0 front.0 front.1 rule few r.1 f.1 a.2 in
+    (ap₂ (λ w ws. codes "h" ∷ w ∷ ws) r.0 f.0 ∙ j.0, j.1)
+
+keyed : (hours : Bool) (ships slots : ℕ) (key text : List ℕ) (words : List (List ℕ)) (rule : Rule) → key ≡ text → RuleRead hours ships slots (text ∷ words) rule → RuleRead hours ships slots (key ∷ words) rule
+keyed hours ships slots key text words rule e r = (ap (λ x. x ∷ words) e ∙ r.0, r.1)
+
+-- the key of a rule with hours, where fleets have them
+by_hours : (hours : Bool) (ships slots : ℕ) (key : List ℕ) (words : List (List ℕ)) (rule : Rule) → ships ≤ 40 → slots ≤ 512 → cond (hours && bytes_eq key (codes "h")) (hours_words ships slots words) None ≡ Some rule → RuleRead hours ships slots (key ∷ words) rule
+by_hours false ships slots key words rule few few' h = absurd cc
+by_hours true ships slots key words rule few few' h =
+    elim (bytes_eq key (codes "h")) as (λ b. bytes_eq key (codes "h") ≡ b → cond b (hours_words ships slots words) None ≡ Some rule → RuleRead true ships slots (key ∷ words) rule) [
+      | true ↦ λ e k. keyed true ships slots _ _ words rule (same_text _ _ e) (hours_read ships slots words rule few few' k)
+      | false ↦ λ e k. absurd cc
+    ] refl h
+
+-- the keys after `p` and `s`
+by_fleet : (hours : Bool) (ships slots : ℕ) (key : List ℕ) (words : List (List ℕ)) (rule : Rule) → ships ≤ 40 → slots ≤ 512
+    → cond (bytes_eq key (codes "u")) (tugs_words hours ships words) (cond (hours && bytes_eq key (codes "h")) (hours_words ships slots words) None) ≡ Some rule → RuleRead hours ships slots (key ∷ words) rule
+by_fleet hours ships slots key words rule few few' h =
+    elim (bytes_eq key (codes "u")) as (λ b. bytes_eq key (codes "u") ≡ b → cond b (tugs_words hours ships words) (cond (hours && bytes_eq key (codes "h")) (hours_words ships slots words) None) ≡ Some rule → RuleRead hours ships slots (key ∷ words) rule) [
+      | true ↦ λ e k. keyed hours ships slots _ _ words rule (same_text _ _ e) (tugs_read hours ships slots words rule few k)
+      | false ↦ λ e k. by_hours hours ships slots key words rule few few' k
+    ] refl h
+
+rule_words_read : (hours : Bool) (ships slots : ℕ) (words : List (List ℕ)) (rule : Rule) → ships ≤ 40 → slots ≤ 512 → rule_words hours ships slots words ≡ Some rule → RuleRead hours ships slots words rule
+rule_words_read hours ships slots [] rule few few' h = absurd cc
+rule_words_read hours ships slots (key ∷ words) rule few few' h =
+    elim (bytes_eq key (codes "p")) as (λ b. bytes_eq key (codes "p") ≡ b → cond b (pair_words ships words) (cond (bytes_eq key (codes "s")) (after_words ships words) (cond (bytes_eq key (codes "u")) (tugs_words hours ships words) (cond (hours && bytes_eq key (codes "h")) (hours_words ships slots words) None))) ≡ Some rule → RuleRead hours ships slots (key ∷ words) rule) [
+      | true ↦ λ e k. keyed hours ships slots _ _ words rule (same_text _ _ e) (pair_read hours ships slots words rule few k)
       | false ↦ λ _ j.
-          elim (bytes_eq key (codes "s")) as (λ b. bytes_eq key (codes "s") ≡ b → cond b (after_words ships words) (cond (bytes_eq key (codes "u")) (tugs_words ships words) None) ≡ Some rule → RuleRead ships (key ∷ words) rule) [
-            | true ↦ λ e k. keyed _ _ words ships rule (same_text _ _ e) (after_read ships words rule few k)
-            | false ↦ λ _ i.
-                elim (bytes_eq key (codes "u")) as (λ b. bytes_eq key (codes "u") ≡ b → cond b (tugs_words ships words) None ≡ Some rule → RuleRead ships (key ∷ words) rule) [
-                  | true ↦ λ e k. keyed _ _ words ships rule (same_text _ _ e) (tugs_read ships words rule few k)
-                  | false ↦ λ e k. absurd cc
-                ] refl i
+          elim (bytes_eq key (codes "s")) as (λ b. bytes_eq key (codes "s") ≡ b → cond b (after_words ships words) (cond (bytes_eq key (codes "u")) (tugs_words hours ships words) (cond (hours && bytes_eq key (codes "h")) (hours_words ships slots words) None)) ≡ Some rule → RuleRead hours ships slots (key ∷ words) rule) [
+            | true ↦ λ e k. keyed hours ships slots _ _ words rule (same_text _ _ e) (after_read hours ships slots words rule few k)
+            | false ↦ λ _ i. by_fleet hours ships slots key words rule few few' i
           ] refl j
     ] refl h
 
--- a line that is a rule is its one text, and the rule keeps the limits
-pub rule_read : (ships : ℕ) (line : List ℕ) (rule : Rule) → ships ≤ 40 → rule_form ships line ≡ Some rule → (line ≡ rule_text rule) × RuleFits ships rule
-rule_read ships line rule few h = let r = rule_words_read ships (words_of line) rule few h in (rejoined 32 line _ r.0, r.1)
+-- a line that is a rule is its one text, and a text can have the rule
+pub rule_read : (hours : Bool) (ships slots : ℕ) (line : List ℕ) (rule : Rule) → ships ≤ 40 → slots ≤ 512 → rule_form hours ships slots line ≡ Some rule → (line ≡ rule_text rule) × RuleIn hours ships slots rule
+rule_read hours ships slots line rule few few' h = let r = rule_words_read hours ships slots (words_of line) rule few few' h in (rejoined 32 line _ r.0, r.1)

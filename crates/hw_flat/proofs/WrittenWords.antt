@@ -29,6 +29,10 @@ word_more out word words = append_assoc out (32 ∷ word) (led words)
 pub keyed : (key : ℕ) (out first : List ℕ) (words : List (List ℕ)) → (out ++ key ∷ 32 ∷ first) ++ led words ≡ out ++ spaced ((key ∷ []) ∷ first ∷ words)
 keyed key out first words = append_assoc out (key ∷ 32 ∷ first) (led words) ∙ ap (λ t. out ++ key ∷ 32 ∷ t) (spaced_led first words)
 
+-- and words of two kinds
+pub keyed_both : (key : ℕ) (out first : List ℕ) (xs ys : List (List ℕ)) → ((out ++ key ∷ 32 ∷ first) ++ led xs) ++ led ys ≡ out ++ spaced ((key ∷ []) ∷ first ∷ (xs ++ ys))
+keyed_both key out first xs ys = append_assoc (out ++ key ∷ 32 ∷ first) (led xs) (led ys) ∙ ap (λ t. (out ++ key ∷ 32 ∷ first) ++ t) (led-append xs ys) ∙ keyed key out first (xs ++ ys)
+
 pub keyed_next : (key : ℕ) (out first second : List ℕ) (words : List (List ℕ)) → ((out ++ key ∷ 32 ∷ first) ++ 32 ∷ second) ++ led words ≡ out ++ spaced ((key ∷ []) ∷ first ∷ second ∷ words)
 keyed_next key out first second words = word_more (out ++ key ∷ 32 ∷ first) second words ∙ keyed key out first (second ∷ words)
 

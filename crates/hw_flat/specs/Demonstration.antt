@@ -77,7 +77,7 @@ jobs_drawn ships = in_turn job_drawn (from_to 0 ships)
 
 -- the rules of two ships, and after them one on the jobs, which share four tugs
 abbrev pub rules_drawn : ℕ → Lcg → List Rule
-rules_drawn ships g = (pairs_drawn ships g).0 ++ Tugs 4 (jobs_drawn ships (pairs_drawn ships g).1).0 ∷ []
+rules_drawn ships g = (pairs_drawn ships g).0 ++ Tugs 4 [] (jobs_drawn ships (pairs_drawn ships g).1).0 ∷ []
 
 -- ---- the problem
 

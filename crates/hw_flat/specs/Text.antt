@@ -1,5 +1,5 @@
 -- The flat text, over the list of its lines.
-use Rattle.std.specs.Prelude.{◌≡◌, ℕ, zero, suc, ◌+◌, ◌-◌, Bool, List, [], ◌∷◌, ◌++◌, length, Option, Some, None, Result, Ok, Err, codes, bytes_eq, if◌then◌else◌}
+use Rattle.std.specs.Prelude.{◌≡◌, ℕ, zero, suc, ◌+◌, ◌-◌, Bool, ◌||◌, not, List, [], ◌∷◌, ◌++◌, length, Option, Some, None, Result, Ok, Err, codes, bytes_eq, if◌then◌else◌}
 use Rattle.hw_lemmas.specs.Operators.{◌>>=◌}
 use Rattle.hw_model.specs.declared.limits.TheConstants.{MOST_RULES}
 use Rattle.hw_model.specs.declared.rule.Rule.{Rule}
@@ -9,7 +9,7 @@ use Rattle.hw_flat.specs.declared.fault.FlatWord.{FlatWord}
 use Rattle.hw_flat.specs.declared.fault.FlatWord.TheVariants as words
 use Rattle.hw_flat.specs.declared.fault.FlatFault.{FlatFault}
 use Rattle.hw_flat.specs.declared.fault.FlatFault.TheVariants as faults
-use Rattle.hw_flat.specs.TextForms.{header_form, size_form, row_form, rule_form}
+use Rattle.hw_flat.specs.TextForms.{header_form, size_form, row_form, rule_form, any_hours}
 
 -- the first line that isn't of the form demanded at its place
 pub record Fault : Type 0 where
@@ -49,28 +49,39 @@ rule_before number room None read = fault number words.Rule
 rule_before number zero (Some rule) read = fault number words.Many
 rule_before number (suc room) (Some rule) read = read >>= λ x. Ok (rule ∷ x.0, x.1)
 
--- the rules up to the line `end`, at most `room` of them, and the parts after that line
-unfoldable pub rules_at : ℕ → ℕ → ℕ → List (List ℕ) → Result (List Rule × List (List ℕ)) Fault
-rules_at ships number room [] = fault number words.Rule
-rules_at ships number room (line ∷ []) = fault number words.Rule
-rules_at ships number room (line ∷ next ∷ parts) =
+-- the rules of the form up to the line `end`, at most `room` of them, and the parts after that line
+unfoldable pub rules_at : (List ℕ → Option Rule) → ℕ → ℕ → List (List ℕ) → Result (List Rule × List (List ℕ)) Fault
+rules_at form number room [] = fault number words.Rule
+rules_at form number room (line ∷ []) = fault number words.Rule
+rules_at form number room (line ∷ next ∷ parts) =
     if bytes_eq line (codes "end") then Ok ([], next ∷ parts)
-    else rule_before number room (rule_form ships line) (rules_at ships (number + 1) (room - 1) (next ∷ parts))
+    else rule_before number room (form line) (rules_at form (number + 1) (room - 1) (next ∷ parts))
+
+-- where fleets have hours, one of the rules needs them
+abbrev pub hours_needed : Bool → List Rule → Bool
+hours_needed hours rules = not hours || any_hours rules
 
 -- the problem of these numbers and lists. Where ships may stay, it has one more slot
 abbrev pub problem_of : Bool → ℕ × ℕ → List (Option ℕ) → List Rule → Problem
 problem_of stay size values rules = record { ships = size.0; slots = if stay then size.1 + 1 else size.1; stay = stay; values = values; rules = rules }
 
+-- the problem of what stands before `end`: where fleets have hours, `end` comes after a rule that needs them, and it ends the text
+abbrev pub closed : Bool × Bool → ℕ × ℕ → List (Option ℕ) → List Rule → List (List ℕ) → Result Problem Fault
+closed version size values rules parts =
+    if hours_needed version.1 rules then
+    if at_end parts then Ok (problem_of version.0 size values rules) else fault (4 + size.0 + length rules) words.Tail
+    else fault (3 + size.0 + length rules) words.Rule
+
 -- the problem of the lines, or the first bad line
 unfoldable pub problem_of_lines : List (List ℕ) → Result Problem Fault
 problem_of_lines parts = do
   first ← line_at 1 words.Header parts
-  stay ← formed 1 words.Header (header_form first.0)
+  version ← formed 1 words.Header (header_form first.0)
   second ← line_at 2 words.Size first.1
   size ← formed 2 words.Size (size_form second.0)
-  rows ← rows_at stay size.1 3 size.0 second.1
-  rules ← rules_at size.0 (3 + size.0) MOST_RULES rows.1
-  if at_end rules.1 then Ok (problem_of stay size rows.0 rules.0) else fault (4 + size.0 + length rules.0) words.Tail
+  rows ← rows_at version.0 size.1 3 size.0 second.1
+  rules ← rules_at (rule_form version.1 size.0 size.1) (3 + size.0) MOST_RULES rows.1
+  closed version size rows.0 rules.0 rules.1
 
 -- what a text says: a problem, or the first line that isn't of the form demanded at its place
 abbrev pub flat_text : List ℕ → Result Problem Fault

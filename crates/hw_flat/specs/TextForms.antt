@@ -1,10 +1,12 @@
 -- The forms of the lines of a flat text, each over the words of the line.
 use Rattle.std.specs.Prelude.{ℕ, zero, suc, ◌+◌, Bool, true, false, ◌&&◌, ◌||◌, List, [], ◌∷◌, ◌++◌, Option, Some, None, option_map, codes, bytes_eq, nat_le, nat_lt, int_le, if◌then◌else◌}
-use Rattle.hw_model.specs.declared.limits.TheConstants.{MOST_SHIPS, MOST_SLOTS, MOST_VALUE, MOST_HOLES, MOST_DIFFERENCE, MOST_FLEET, MOST_TUGS, MOST_HOLD}
+use Rattle.std.specs.List.{list_any}
+use Rattle.hw_model.specs.declared.limits.TheConstants.{MOST_SHIPS, MOST_SLOTS, MOST_VALUE, MOST_HOLES, MOST_DIFFERENCE, MOST_FLEET, MOST_PLAIN_FLEET, MOST_TUGS, MOST_HOLD}
 use Rattle.hw_model.specs.declared.rule.Hole.{Hole}
 use Rattle.hw_model.specs.declared.rule.Job.{Job}
 use Rattle.hw_model.specs.declared.rule.Rule.{Rule}
 use Rattle.hw_model.specs.declared.rule.Rule.TheVariants.{Pair, After, Tugs}
+use Rattle.hw_model.specs.declared.rule.Step.{Step}
 use Rattle.hw_text.specs.Numbers.{number_up_to, number_from_to, signed_up_to}
 use Rattle.hw_text.specs.Parts.{parts_of, words_of}
 
@@ -17,9 +19,14 @@ None and_then f = None
 abbrev pub kept_if : {A : Type 0} → Bool → A → Option A
 kept_if test x = if test then Some x else None
 
--- `flat 1`, or `flat 2` where ships may stay
-abbrev pub header_form : List ℕ → Option Bool
-header_form line = if bytes_eq line (codes "flat 1") then Some false else if bytes_eq line (codes "flat 2") then Some true else None
+-- whether ships may stay, and whether fleets have hours: `flat 1` neither, `flat 2` the first, `flat 3` the second, `flat 4` both
+abbrev pub header_form : List ℕ → Option (Bool × Bool)
+header_form line =
+    if bytes_eq line (codes "flat 1") then Some (false, false)
+    else if bytes_eq line (codes "flat 2") then Some (true, false)
+    else if bytes_eq line (codes "flat 3") then Some (false, true)
+    else if bytes_eq line (codes "flat 4") then Some (true, true)
+    else None
 
 abbrev pub both : Option ℕ → Option ℕ → Option (ℕ × ℕ)
 both m n = m and_then λ m'. n and_then λ n'. Some (m', n')
@@ -125,21 +132,80 @@ after_words ships (v ∷ w ∷ gap ∷ []) =
     kept_if (nat_lt v' w' || nat_lt w' v') (After v' w' gap')
 after_words ships _ = None
 
--- `FLEET SHIP:TUGS:HOLD ..` with ascending ships
-abbrev pub tugs_words : ℕ → List (List ℕ) → Option Rule
-tugs_words ships (fleet ∷ words) =
-    number_up_to MOST_FLEET fleet and_then λ fleet'. some_items (job_form ships) MOST_SHIPS words and_then λ jobs.
-    kept_if (ascend_from 0 jobs) (Tugs fleet' jobs)
-tugs_words ships _ = None
+-- the greatest fleet that a line may have: that of every fleet, where fleets have hours
+abbrev pub most_fleet : Bool → ℕ
+most_fleet hours = if hours then MOST_FLEET else MOST_PLAIN_FLEET
 
-abbrev pub rule_words : ℕ → List (List ℕ) → Option Rule
-rule_words ships [] = None
-rule_words ships (key ∷ words) =
+-- `FLEET SHIP:TUGS:HOLD ..` with ascending ships
+abbrev pub tugs_words : Bool → ℕ → List (List ℕ) → Option Rule
+tugs_words hours ships (fleet ∷ words) =
+    number_up_to (most_fleet hours) fleet and_then λ fleet'. some_items (job_form ships) MOST_SHIPS words and_then λ jobs.
+    kept_if (ascend_from 0 jobs) (Tugs fleet' [] jobs)
+tugs_words hours ships _ = None
+
+abbrev pub step_parts : ℕ → List (List ℕ) → Option Step
+step_parts slots (from ∷ fleet ∷ []) =
+    number_from_to 1 slots from and_then λ from'. number_up_to MOST_FLEET fleet and_then λ fleet'.
+    kept_if (nat_lt from' slots) (record { from = from'; fleet = fleet' })
+step_parts slots _ = None
+
+-- `FROM:FLEET`, where FROM is a slot from 1 in which ships sail
+abbrev pub step_form : ℕ → List ℕ → Option Step
+step_form slots word = step_parts slots (parts_of 58 word)
+
+abbrev pub put_front : {A : Type 0} → Option A → List ℕ → List (List ℕ) → List A × List (List ℕ) → List A × List (List ℕ)
+put_front None word words read = ([], word ∷ words)
+put_front (Some x) word words read = (x ∷ read.0, read.1)
+
+-- the items of the form in front, and the words from the first that isn't one
+abbrev pub front_items : {A : Type 0} → (List ℕ → Option A) → List (List ℕ) → List A × List (List ℕ)
+front_items form [] = ([], [])
+front_items form (word ∷ words) = put_front (form word) word words (front_items form words)
+
+-- the slots of the steps ascend, from this one on
+abbrev pub steps_ascend_from : ℕ → List Step → Bool
+steps_ascend_from least [] = true
+steps_ascend_from least (step ∷ steps) = nat_le least step.from && steps_ascend_from (step.from + 1) steps
+
+-- there is a step, and the slots of the steps ascend
+abbrev pub some_ascending : List Step → Bool
+some_ascending [] = false
+some_ascending (step ∷ steps) = steps_ascend_from 1 (step ∷ steps)
+
+-- a fleet and its steps with the jobs of these words, of ascending ships
+abbrev pub with_jobs : ℕ → ℕ → List Step × List (List ℕ) → Option Rule
+with_jobs ships fleet steps =
+    some_items (job_form ships) MOST_SHIPS steps.1 and_then λ jobs.
+    kept_if (some_ascending steps.0 && ascend_from 0 jobs) (Tugs fleet steps.0 jobs)
+
+-- `FLEET FROM:FLEET .. SHIP:TUGS:HOLD ..` with ascending slots and ascending ships. They are at most 511 steps, since FROM
+-- ascends from 1 to SLOTS - 1
+abbrev pub hours_words : ℕ → ℕ → List (List ℕ) → Option Rule
+hours_words ships slots (fleet ∷ words) =
+    number_up_to MOST_FLEET fleet and_then λ fleet'. with_jobs ships fleet' (front_items (step_form slots) words)
+hours_words ships slots _ = None
+
+abbrev pub rule_words : Bool → ℕ → ℕ → List (List ℕ) → Option Rule
+rule_words hours ships slots [] = None
+rule_words hours ships slots (key ∷ words) =
     if bytes_eq key (codes "p") then pair_words ships words
     else if bytes_eq key (codes "s") then after_words ships words
-    else if bytes_eq key (codes "u") then tugs_words ships words
+    else if bytes_eq key (codes "u") then tugs_words hours ships words
+    else if hours && bytes_eq key (codes "h") then hours_words ships slots words
     else None
 
--- a rule: `p` and a pair, `s` and a precedence, `u` and a fleet with its jobs
-abbrev pub rule_form : ℕ → List ℕ → Option Rule
-rule_form ships line = rule_words ships (words_of line)
+-- a rule: `p` and a pair, `s` and a precedence, `u` and a fleet with its jobs, and where fleets have hours `h` and a fleet with
+-- its steps and its jobs
+abbrev pub rule_form : Bool → ℕ → ℕ → List ℕ → Option Rule
+rule_form hours ships slots line = rule_words hours ships slots (words_of line)
+
+-- the rule needs a text whose fleets have hours: it has steps, or a fleet above those of the texts without hours
+abbrev pub has_hours : Rule → Bool
+has_hours (Pair v w holes) = false
+has_hours (After v w gap) = false
+has_hours (Tugs fleet [] jobs) = nat_lt MOST_PLAIN_FLEET fleet
+has_hours (Tugs fleet (step ∷ later) jobs) = true
+
+-- one of the rules does
+abbrev pub any_hours : List Rule → Bool
+any_hours rules = list_any has_hours rules

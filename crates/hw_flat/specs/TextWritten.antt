@@ -6,16 +6,21 @@ use Rattle.hw_model.specs.declared.rule.Hole.{Hole}
 use Rattle.hw_model.specs.declared.rule.Job.{Job}
 use Rattle.hw_model.specs.declared.rule.Rule.{Rule}
 use Rattle.hw_model.specs.declared.rule.Rule.TheVariants.{Pair, After, Tugs}
+use Rattle.hw_model.specs.declared.rule.Step.{Step}
 use Rattle.hw_model.specs.Problem.{Problem, horizon, value_at}
 use Rattle.hw_text.specs.Parts.{spaced, ended_lines}
+use Rattle.hw_flat.specs.TextForms.{any_hours}
 
 -- the words, each with a space in front
 abbrev pub led : List (List ℕ) → List ℕ
 led [] = []
 led (word ∷ words) = 32 ∷ word ++ led words
 
-abbrev pub header_text : Bool → List ℕ
-header_text stay = if stay then codes "flat 2" else codes "flat 1"
+-- by whether ships may stay and whether a rule needs hours
+abbrev pub header_text : Bool → Bool → List ℕ
+header_text stay hours =
+    if hours then if stay then codes "flat 4" else codes "flat 3"
+    else if stay then codes "flat 2" else codes "flat 1"
 
 abbrev pub size_text : ℕ → ℕ → List ℕ
 size_text ships slots = spaced (codes "size" ∷ decimal ships ∷ decimal slots ∷ [])
@@ -42,11 +47,19 @@ hole_text hole = join_with_byte 58 (signed_decimal hole.lo ∷ signed_decimal ho
 abbrev pub job_text : Job → List ℕ
 job_text job = join_with_byte 58 (decimal job.ship ∷ decimal job.tugs ∷ decimal job.hold ∷ [])
 
+abbrev pub step_text : Step → List ℕ
+step_text step = join_with_byte 58 (decimal step.from ∷ decimal step.fleet ∷ [])
+
+-- `u`, and `h` where there are steps
+abbrev pub tugs_key : List Step → List ℕ
+tugs_key [] = codes "u"
+tugs_key (step ∷ later) = codes "h"
+
 -- the words of a rule
 abbrev pub rule_texts : Rule → List (List ℕ)
 rule_texts (Pair v w holes) = codes "p" ∷ decimal v ∷ decimal w ∷ map hole_text holes
 rule_texts (After v w gap) = codes "s" ∷ decimal v ∷ decimal w ∷ decimal gap ∷ []
-rule_texts (Tugs fleet later jobs) = codes "u" ∷ decimal fleet ∷ map job_text jobs
+rule_texts (Tugs fleet later jobs) = tugs_key later ∷ decimal fleet ∷ (map step_text later ++ map job_text jobs)
 
 abbrev pub rule_text : Rule → List ℕ
 rule_text rule = spaced (rule_texts rule)
@@ -59,11 +72,15 @@ rows_in (suc ships) slots values = take slots values ∷ rows_in ships slots (dr
 -- the lines of a problem
 abbrev pub problem_lines : Problem → List (List ℕ)
 problem_lines f =
-    header_text f.stay ∷ size_text f.ships (horizon f) ∷ (map (row_text (horizon f)) (rows_in f.ships f.slots f.values) ++ map rule_text f.rules ++ codes "end" ∷ [])
+    header_text f.stay (any_hours f.rules) ∷ size_text f.ships (horizon f) ∷ (map (row_text (horizon f)) (rows_in f.ships f.slots f.values) ++ map rule_text f.rules ++ codes "end" ∷ [])
 
 -- the text of a problem: its lines, each ended
 abbrev pub problem_text : Problem → List ℕ
 problem_text f = ended_lines (problem_lines f)
+
+-- a rule has steps or a fleet above those of texts without hours. Then the version is 3, or 4 where ships may stay
+abbrev pub HasHours : Problem → Type 0
+HasHours f = IsTrue (any_hours f.rules)
 
 -- where ships may stay, each has no value or 0 in the last slot, as a text says it
 abbrev pub IsWritable : Problem → Type 0

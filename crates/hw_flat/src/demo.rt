@@ -7,7 +7,9 @@ ghost use Rattle.hw_flat.specs.TextWritten.{IsWritable};
 ghost use Rattle.hw_flat.specs.Demonstration.{generator, draw, and_then, in_turn, from_to, rise, value_drawn, row_drawn, values_drawn, pair_drawn, pairs_of_drawn, pairs_drawn, job_drawn, jobs_drawn, rules_drawn, demonstration};
 
 use crate::flat::Flat;
-use hw_model::{Hole, Holes, Job, Jobs, MOST_SHIPS, MOST_SLOTS, NoMemory, Rule, ShipId, Slot};
+use hw_model::{
+    Hole, Holes, Job, Jobs, MOST_SHIPS, MOST_SLOTS, NoMemory, Rule, ShipId, Slot, Steps,
+};
 use rand_pcg::Lcg64Xsh32;
 use rand_pcg::rand_core::utils::NextWord;
 use std::alloc::{AllocError, Global};
@@ -182,7 +184,14 @@ fn draw_rules(alloc: Global, words: &mut Lcg64Xsh32, ships: u32) -> Result<Vec<R
     let jobs = Jobs {
         items: draw_jobs(alloc, words, ships)?,
     };
-    rules.push(Rule::Tugs { fleet: FLEET, jobs })?;
+    let later = Steps {
+        items: Vec::new(alloc),
+    };
+    rules.push(Rule::Tugs {
+        fleet: FLEET,
+        later,
+        jobs,
+    })?;
     Ok(rules)
 }
 

@@ -9,13 +9,13 @@ use thiserror::Error;
 /// What was demanded at the first bad line.
 #[derive(Clone, Copy, Debug)]
 pub enum FlatWord {
-    /// The first line, `flat 1` or `flat 2`.
+    /// The first line, `flat` and a number from 1 to 4.
     Header,
     /// The numbers of ships and slots.
     Size,
     /// The values of a ship.
     Values,
-    /// A rule or `end`.
+    /// A rule or `end`; under `flat 3` and `flat 4` `end` comes after a rule that needs hours.
     Rule,
     /// `end`, since the greatest number of rules came before.
     Many,

@@ -7,15 +7,22 @@ use hw_model::{MOST_SHIPS, MOST_SLOTS, MOST_VALUE};
 use hw_text::{Words, is_text, read_number, read_small};
 use std::alloc::{AllocError, Global};
 
-/// Whether ships may stay: `flat 1` or `flat 2`.
-pub fn header_of(line: &[u8]) -> Option<bool>
+/// Whether ships may stay, as in `flat 2` and `flat 4`, and whether fleets have hours, as in
+/// `flat 3` and `flat 4`.
+pub fn header_of(line: &[u8]) -> Option<(bool, bool)>
     ensures { result ≡ header_form line.now }
 {
     if is_text(line, b"flat 1") {
-        return Some(false);
+        return Some((false, false));
     }
     if is_text(line, b"flat 2") {
-        return Some(true);
+        return Some((true, false));
+    }
+    if is_text(line, b"flat 3") {
+        return Some((false, true));
+    }
+    if is_text(line, b"flat 4") {
+        return Some((true, true));
     }
     None
 }

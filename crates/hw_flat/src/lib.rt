@@ -7,6 +7,7 @@ mod demo;
 mod fault;
 mod flat;
 mod forms;
+mod hours;
 mod laws;
 mod reading;
 mod room;
@@ -17,7 +18,9 @@ mod writing;
 pub use demo::make_demo;
 pub use fault::{FlatFault, FlatWord};
 pub use flat::Flat;
-pub use hw_model::{Hole, Holes, Job, Jobs, NoMemory, Order, Rule, Shape, ShipId, Slot, Source};
+pub use hw_model::{
+    Hole, Holes, Job, Jobs, NoMemory, Order, Rule, Shape, ShipId, Slot, Source, Step, Steps,
+};
 pub use laws::{one_text, reads_back};
 pub use room::Room;
 pub use timetable::Timetable;

@@ -4,10 +4,12 @@ ghost use Rattle.std.specs.Prelude.{◌≡◌, ◌≤◌, ◌+◌, ◌*◌, leng
 ghost use Rattle.hw_text.specs.Parts.{parts_of};
 ghost use Rattle.hw_model.specs.Limits.{IsFlat};
 ghost use Rattle.hw_flat.specs.Text.{Gives, formed, line_at, row_at, rows_at, rules_at, problem_of_lines, problem_of, flat_text};
+ghost use Rattle.hw_flat.specs.TextForms.{rule_form};
 
 use crate::fault::{FlatFault, FlatWord};
 use crate::flat::Flat;
 use crate::forms::{header_of, row_of, size_of};
+use crate::hours::hours_needed;
 use crate::rules::rule_of;
 use hw_model::{MOST_RULES, MOST_SLOTS, Rule};
 use hw_text::{cut_line, is_end, is_text};
@@ -68,11 +70,13 @@ fn rows_of(
 fn rules_of(
     alloc: Global,
     bytes: &[u8],
+    hours: bool,
     ships: u32,
+    slots: u32,
     first: u64,
 ) -> Result<(Vec<Rule>, &[u8]), FlatFault>
     requires { first ≤ 50 }
-    ensures { Gives (λ x. (x.0.items, parts_of 10 x.1.now)) result (rules_at ships first MOST_RULES (parts_of 10 bytes.now)) }
+    ensures { Gives (λ x. (x.0.items, parts_of 10 x.1.now)) result (rules_at (rule_form hours ships slots) first MOST_RULES (parts_of 10 bytes.now)) }
 {
     let mut rules = Vec::new(alloc);
     let mut rest = bytes;
@@ -81,7 +85,7 @@ fn rules_of(
             return Ok((rules, after));
         }
         let number = first + rules.len() as u64;
-        let Some(rule) = rule_of(alloc, line, ships)? else {
+        let Some(rule) = rule_of(alloc, line, hours, ships, slots)? else {
             return Err(FlatFault::Line {
                 number,
                 word: FlatWord::Rule,
@@ -128,7 +132,7 @@ impl Flat {
         ensures { Gives (λ flat. flat) result (flat_text bytes.now) }
     {
         let (line, rest) = line_of(bytes, 1, FlatWord::Header)?;
-        let Some(stay) = header_of(line) else {
+        let Some((stay, hours)) = header_of(line) else {
             return Err(FlatFault::Line {
                 number: 1,
                 word: FlatWord::Header,
@@ -142,7 +146,13 @@ impl Flat {
             });
         };
         let (values, rest) = rows_of(alloc, rest, ships, slots, stay)?;
-        let (rules, rest) = rules_of(alloc, rest, ships, 3 + u64::from(ships))?;
+        let (rules, rest) = rules_of(alloc, rest, hours, ships, slots, 3 + u64::from(ships))?;
+        if !hours_needed(hours, &rules) {
+            return Err(FlatFault::Line {
+                number: 3 + u64::from(ships) + rules.len() as u64,
+                word: FlatWord::Rule,
+            });
+        }
         if !is_end(rest) {
             return Err(FlatFault::Line {
                 number: 4 + u64::from(ships) + rules.len() as u64,

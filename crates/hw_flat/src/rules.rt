@@ -1,11 +1,11 @@
 //! The forms of rules.
 
 ghost use Rattle.std.specs.Prelude.{◌≡◌, ◌<◌, IfOk, IfSome, option_map};
-ghost use Rattle.hw_flat.specs.TextForms.{ship_word, hole_form, job_form, some_items, ascend_from, pair_words, after_words, tugs_words, rule_form};
+ghost use Rattle.hw_flat.specs.TextForms.{ship_word, hole_form, job_form, step_form, some_items, front_items, ascend_from, some_ascending, pair_words, after_words, most_fleet, tugs_words, hours_words, rule_form};
 
 use hw_model::{
-    Hole, Holes, Job, Jobs, MOST_DIFFERENCE, MOST_FLEET, MOST_HOLD, MOST_HOLES, MOST_SHIPS,
-    MOST_SLOTS, MOST_TUGS, Rule, ShipId,
+    Hole, Holes, Job, Jobs, MOST_DIFFERENCE, MOST_FLEET, MOST_HOLD, MOST_HOLES, MOST_PLAIN_FLEET,
+    MOST_SHIPS, MOST_SLOTS, MOST_TUGS, Rule, ShipId, Step, Steps,
 };
 use hw_text::{Words, is_text, read_signed, read_small};
 use std::alloc::{AllocError, Global};
@@ -147,14 +147,26 @@ fn after_of(mut words: Words<'_>, ships: u32) -> Option<Rule>
     }
 }
 
+/// The greatest fleet that a line may have.
+fn most_fleet(hours: bool) -> u32
+    ensures { result ≡ most_fleet hours }
+{
+    if hours { MOST_FLEET } else { MOST_PLAIN_FLEET }
+}
+
 /// `FLEET SHIP:TUGS:HOLD ..`, where the ships ascend.
-fn tugs_of(alloc: Global, mut words: Words<'_>, ships: u32) -> Result<Option<Rule>, AllocError>
-    ensures { IfOk result (λ o. o ≡ tugs_words ships words.entry) }
+fn tugs_of(
+    alloc: Global,
+    mut words: Words<'_>,
+    hours: bool,
+    ships: u32,
+) -> Result<Option<Rule>, AllocError>
+    ensures { IfOk result (λ o. o ≡ tugs_words hours ships words.entry) }
 {
     let Some(fleet) = words.word() else {
         return Ok(None);
     };
-    let Some(fleet) = read_small(fleet, 0, MOST_FLEET) else {
+    let Some(fleet) = read_small(fleet, 0, most_fleet(hours)) else {
         return Ok(None);
     };
     let Some(items) = jobs_of(alloc, words, ships)? else {
@@ -164,18 +176,117 @@ fn tugs_of(alloc: Global, mut words: Words<'_>, ships: u32) -> Result<Option<Rul
         return Ok(None);
     }
     let jobs = Jobs { items };
-    Ok(Some(Rule::Tugs { fleet, jobs }))
+    let later = Steps {
+        items: Vec::new(alloc),
+    };
+    Ok(Some(Rule::Tugs { fleet, later, jobs }))
 }
 
-/// A pair after `p`, a precedence after `s`, or a fleet and its jobs after `u`.
-pub fn rule_of(alloc: Global, line: &[u8], ships: u32) -> Result<Option<Rule>, AllocError>
-    ensures { IfOk result (λ o. o ≡ rule_form ships line.now) }
+/// `FROM:FLEET`, where ships sail in the slot, which isn't the first one.
+fn step_of(word: &[u8], slots: u32) -> Option<Step>
+    ensures { result ≡ step_form slots word.now }
+{
+    let mut parts = Words::parted_by(b':', word);
+    let from = parts.word()?;
+    let fleet = parts.word()?;
+    parts.end()?;
+    let from = read_small(from, 1, slots)?;
+    let fleet = read_small(fleet, 0, MOST_FLEET)?;
+    if from < slots {
+        Some(Step { from, fleet })
+    } else {
+        None
+    }
+}
+
+/// The steps in front of the words, and the words from the first that is none. `again` has the same
+/// words; it stays behind at that word.
+fn steps_of<'t>(
+    alloc: Global,
+    mut words: Words<'t>,
+    mut again: Words<'t>,
+    slots: u32,
+) -> Result<(Vec<Step>, Words<'t>), AllocError>
+    requires same { again ≡ words }
+    ensures { IfOk result (λ x. (x.0.items, x.1) ≡ front_items (step_form slots) words.entry) }
+{
+    let mut steps = Vec::new(alloc);
+    while let Some(word) = words.word() {
+        let Some(step) = step_of(word, slots) else {
+            return Ok((steps, again));
+        };
+        steps.push(step)?;
+        let _ = again.word();
+    }
+    Ok((steps, again))
+}
+
+/// Whether there is a step, and the slots of the steps ascend.
+fn steps_ascend(steps: &[Step]) -> bool
+    ensures { result ≡ some_ascending steps.now }
+{
+    let mut least = 1;
+    for step in steps {
+        if u64::from(step.from) < least {
+            return false;
+        }
+        least = u64::from(step.from) + 1;
+    }
+    !steps.is_empty()
+}
+
+/// `FLEET FROM:FLEET .. SHIP:TUGS:HOLD ..`, where the slots ascend and the ships do. `again` has the
+/// same words.
+fn hours_of(
+    alloc: Global,
+    mut words: Words<'_>,
+    mut again: Words<'_>,
+    ships: u32,
+    slots: u32,
+) -> Result<Option<Rule>, AllocError>
+    requires same { again ≡ words }
+    ensures { IfOk result (λ o. o ≡ hours_words ships slots words.entry) }
+{
+    let _ = again.word();
+    let Some(fleet) = words.word() else {
+        return Ok(None);
+    };
+    let Some(fleet) = read_small(fleet, 0, MOST_FLEET) else {
+        return Ok(None);
+    };
+    let (steps, words) = steps_of(alloc, words, again, slots)?;
+    let Some(items) = jobs_of(alloc, words, ships)? else {
+        return Ok(None);
+    };
+    if !steps_ascend(&steps) || !ascend(&items) {
+        return Ok(None);
+    }
+    let jobs = Jobs { items };
+    let later = Steps { items: steps };
+    Ok(Some(Rule::Tugs { fleet, later, jobs }))
+}
+
+/// A pair after `p`, a precedence after `s`, a fleet and its jobs after `u`, or, where fleets have
+/// hours, a fleet with its steps and its jobs after `h`.
+pub fn rule_of(
+    alloc: Global,
+    line: &[u8],
+    hours: bool,
+    ships: u32,
+    slots: u32,
+) -> Result<Option<Rule>, AllocError>
+    ensures { IfOk result (λ o. o ≡ rule_form hours ships slots line.now) }
 {
     let mut words = Words::of(line);
     match words.word() {
         Some(key) if is_text(key, b"p") => pair_of(alloc, words, ships),
         Some(key) if is_text(key, b"s") => Ok(after_of(words, ships)),
-        Some(key) if is_text(key, b"u") => tugs_of(alloc, words, ships),
+        Some(key) if is_text(key, b"u") => tugs_of(alloc, words, hours, ships),
+        Some(key) if hours && is_text(key, b"h") => {
+            let mut again = Words::of(line);
+            let _ = again.word();
+            hours_of(alloc, words, again, ships, slots)
+        }
         _ => Ok(None),
     }
 }

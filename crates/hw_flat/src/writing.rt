@@ -3,10 +3,11 @@
 ghost use Rattle.std.specs.Prelude.{◌≡◌, ◌*◌, ◌≤◌, [], ◌∷◌, ◌++◌, length, map, take, drop, codes, decimal, OnOk, OnErr};
 ghost use Rattle.hw_model.specs.Problem.{horizon};
 ghost use Rattle.hw_text.specs.Parts.{ended_lines};
-ghost use Rattle.hw_flat.specs.TextWritten.{led, header_text, size_text, value_text, stay_text, row_text, hole_text, job_text, rule_text, rows_in, problem_text, IsWritable};
+ghost use Rattle.hw_flat.specs.TextWritten.{led, header_text, size_text, value_text, stay_text, row_text, hole_text, job_text, step_text, tugs_key, rule_text, rows_in, problem_text, IsWritable};
 
 use crate::flat::Flat;
-use hw_model::{Hole, Job, NoMemory, Rule};
+use crate::hours::any_hours;
+use hw_model::{Hole, Job, NoMemory, Rule, Step};
 use hw_text::{put_number, put_signed};
 use std::alloc::AllocError;
 
@@ -126,6 +127,25 @@ fn put_jobs(out: &mut Vec<u8>, jobs: &[Job]) -> Result<(), AllocError>
     Ok(())
 }
 
+/// Appends ` FROM:FLEET`.
+fn put_step(out: &mut Vec<u8>, step: Step) -> Result<(), AllocError>
+    ensures { OnOk result (out.new.items ≡ out.old.items ++ 32 ∷ step_text step) }
+{
+    out.push(b' ')?;
+    put_number(out, u64::from(step.from))?;
+    out.push(b':')?;
+    put_number(out, u64::from(step.fleet))
+}
+
+fn put_steps(out: &mut Vec<u8>, steps: &[Step]) -> Result<(), AllocError>
+    ensures { OnOk result (out.new.items ≡ out.old.items ++ led (map step_text steps.now)) }
+{
+    for step in steps {
+        put_step(out, *step)?;
+    }
+    Ok(())
+}
+
 /// Appends a keyword of one letter and a number.
 fn put_key(out: &mut Vec<u8>, key: u8, number: u32) -> Result<(), AllocError>
     ensures { OnOk result (out.new.items ≡ out.old.items ++ key ∷ 32 ∷ decimal number) }
@@ -143,6 +163,13 @@ fn put_next(out: &mut Vec<u8>, number: u32) -> Result<(), AllocError>
     put_number(out, u64::from(number))
 }
 
+/// The key of a fleet with these steps.
+fn key_of(later: &[Step]) -> u8
+    ensures { result ∷ [] ≡ tugs_key later.now }
+{
+    if later.is_empty() { b'u' } else { b'h' }
+}
+
 /// Appends a rule without its end.
 fn put_rule(out: &mut Vec<u8>, rule: &Rule) -> Result<(), AllocError>
     ensures { OnOk result (out.new.items ≡ out.old.items ++ rule_text rule.now) }
@@ -158,8 +185,9 @@ fn put_rule(out: &mut Vec<u8>, rule: &Rule) -> Result<(), AllocError>
             put_next(out, *w)?;
             put_next(out, *gap)
         }
-        Rule::Tugs { fleet, jobs } => {
-            put_key(out, b'u', *fleet)?;
+        Rule::Tugs { fleet, later, jobs } => {
+            put_key(out, key_of(&later.items), *fleet)?;
+            put_steps(out, &later.items)?;
             put_jobs(out, &jobs.items)
         }
     }
@@ -177,10 +205,21 @@ fn put_rules(out: &mut Vec<u8>, rules: &[Rule]) -> Result<(), AllocError>
 }
 
 /// Appends the first two lines.
-fn put_head(out: &mut Vec<u8>, stay: bool, ships: u32, sailing: u32) -> Result<(), AllocError>
-    ensures { OnOk result (out.new.items ≡ out.old.items ++ ended_lines (header_text stay ∷ size_text ships sailing ∷ [])) }
+fn put_head(
+    out: &mut Vec<u8>,
+    stay: bool,
+    hours: bool,
+    ships: u32,
+    sailing: u32,
+) -> Result<(), AllocError>
+    ensures { OnOk result (out.new.items ≡ out.old.items ++ ended_lines (header_text stay hours ∷ size_text ships sailing ∷ [])) }
 {
-    let version = if stay { b'2' } else { b'1' };
+    let version = match (stay, hours) {
+        (false, false) => b'1',
+        (true, false) => b'2',
+        (false, true) => b'3',
+        (true, true) => b'4',
+    };
     out.extend_from_slice(b"flat ")?;
     out.push(version)?;
     out.extend_from_slice(b"\nsize ")?;
@@ -195,7 +234,7 @@ fn put_lines(out: &mut Vec<u8>, flat: &Flat) -> Result<(), AllocError>
     ensures { OnOk result (out.new.items ≡ out.old.items ++ problem_text flat.now) }
 {
     let sailing = flat.horizon();
-    put_head(out, flat.stay, flat.ships, sailing)?;
+    put_head(out, flat.stay, any_hours(&flat.rules), flat.ships, sailing)?;
     put_rows(
         out,
         &flat.values,
