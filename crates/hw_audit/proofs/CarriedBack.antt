@@ -1,5 +1,5 @@
 -- The plan that a day leaves fits, and its text reads as the plan.
-use Rattle.std.proofs.Common.{◌≡◌, ℕ, ◌+◌, ◌-◌, ◌<◌, ◌≤◌, Bool, true, false, cond, nat_le, List, [], ◌∷◌, ◌++◌, map, All, length, get_or, unwrap_or, refl, sym, ap, subst, ◌∙◌, arith}
+use Rattle.std.proofs.Common.{◌≡◌, ℕ, ◌-◌, ◌<◌, ◌≤◌, Bool, true, false, cond, List, [], ◌∷◌, ◌++◌, map, All, get_or, unwrap_or, refl, ◌∙◌, arith}
 use Rattle.std.proofs.lemmas.Bool.{and_from, le-leb}
 use Rattle.std.proofs.lemmas.List.Elements.{All-nil, All-cons, All-head, All-tail, All-get_or}
 use Rattle.std.proofs.lemmas.List.Folds.{list_all-append}
@@ -21,10 +21,10 @@ use Rattle.hw_audit.proofs.Taken.{all_taken}
 use Rattle.hw_repair.specs.Text.{rule_has_tugs}
 use Rattle.hw_repair.specs.Wishes.{WishFits, IsRepairable, PlanFits}
 use Rattle.hw_repair.proofs.Written.{written_reads}
-use Rattle.hw_audit.specs.Carried.{reached, earliest, wish_now, wishes_now, carried_plan}
+use Rattle.hw_audit.specs.Carried.{reached, wish_now, wishes_now, carried_plan}
 use Rattle.hw_audit.specs.CarriedLaws.{CarriedReads}
 use Rattle.hw_audit.proofs.Days.{wishes_many, each_reached, earliest_from}
-use Rattle.hw_audit.proofs.Meeting.{SameShips, same_ships}
+use Rattle.hw_audit.proofs.Meeting.{same_ships}
 use Rattle.hw_audit.proofs.Values.{values_repairable}
 
 -- ---- the wishes
@@ -72,7 +72,7 @@ two_have withdrawn (Tugs fleet later jobs ∷ rules) each = absurd each.0
 
 tugs_have : (withdrawn fleet : ℕ) (jobs : List Job) → withdrawn ≤ fleet → list_all (rule_has_tugs withdrawn) (tug_rule fleet jobs) ≡ true
 tugs_have withdrawn fleet [] le = refl
-tugs_have withdrawn fleet (job ∷ jobs) le = and_from _ _ (le-leb withdrawn fleet le) refl
+tugs_have withdrawn fleet (job ∷ jobs) le = rw (le-leb withdrawn fleet le) refl
 
 both_have : (withdrawn : ℕ) (rules more : List Rule) → list_all (rule_has_tugs withdrawn) rules ≡ true → list_all (rule_has_tugs withdrawn) more ≡ true → list_all (rule_has_tugs withdrawn) (rules ++ more) ≡ true
 both_have withdrawn rules more h k = list_all-append (rule_has_tugs withdrawn) rules more ∙ and_from _ _ h k

@@ -1,8 +1,7 @@
 -- What a state leaves each ship, ship by ship.
-use Rattle.std.proofs.Common.{◌≡◌, ◌≢◌, ◌==◌, ℕ, zero, suc, ◌+◌, ◌<◌, ◌≤◌, Bool, true, false, ◌&&◌, not, cond, nat_lt, List, [], ◌∷◌, Some, slice_get, length, get_or, refl, sym, ap, ◌∙◌, arith}
-use Rattle.std.proofs.lemmas.Bool.{ltb-true, ltb-false, eqb-true, ne_eqb, eq-eqb}
+use Rattle.std.proofs.Common.{◌≡◌, ◌≢◌, ◌==◌, ℕ, zero, suc, ◌<◌, ◌≤◌, Bool, true, false, ◌&&◌, not, cond, nat_lt, List, [], ◌∷◌, Some, slice_get, length, get_or, refl, ap, arith}
+use Rattle.std.proofs.lemmas.Bool.{ltb-true, ltb-false, ne_eqb, eq-eqb}
 use Rattle.hw_lemmas.proofs.Truths.{absurd_false}
-use Rattle.hw_repair.specs.declared.plan.Wish.{Wish}
 use Rattle.hw_audit.specs.Carried.{reached, earliest, wish_now, wishes_now}
 
 pub wish_at : (day ship : ℕ) (sailed : List Bool) (table slots : List ℕ) → length table ≡ length sailed → length slots ≡ length sailed → ship < length sailed

@@ -3,40 +3,56 @@ use Rattle.std.proofs.Common.{◌≡◌, ◌≢◌, ◌==◌, ℕ, zero, suc, �
 use Rattle.std.proofs.lemmas.Bool.{cases_eq, eqb-false, or_parts, cases_lt}
 use Rattle.std.proofs.lemmas.Option.{same_Some, slice_get-get_or}
 use Rattle.std.proofs.lemmas.List.{get_or_past}
-use Rattle.std.proofs.lemmas.List.FromFn.{fill_by_all}
 use Rattle.std.specs.List.{list_all, range_with_len}
 use Rattle.hw_lemmas.proofs.Lists.{has_get}
 use Rattle.hw_model.specs.declared.rule.Job.{Job}
 use Rattle.hw_model.specs.declared.rule.Rule.{Rule}
 use Rattle.hw_model.specs.declared.rule.Rule.TheVariants.{Pair, After, Tugs}
+use Rattle.hw_model.specs.declared.rule.Step.{Step}
 use Rattle.hw_model.specs.Problem.{Problem, horizon, value_at}
-use Rattle.hw_model.specs.Rules.{held_by, pair_holds}
+use Rattle.hw_model.specs.Rules.{held_by, pair_holds, fleet_in}
 use Rattle.hw_model.specs.Timetables.{restriction_holds, holds_at}
 use Rattle.hw_audit.specs.declared.marks.Concern.TheVariants.{Ship, Fleet}
-use Rattle.hw_plan_texts.specs.Fleets.{lessened, lessened_rule}
+use Rattle.hw_plan_texts.specs.Fleets.{lessened, lessened_step, lessened_rule}
 use Rattle.hw_audit.specs.Keeping.{TugsComeLast, jobs_of_tug_rule, last_jobs, AreHeld, holds_now, decided_by_held_tugs, concerns, AreMarks, AreOtherMarks, kept_holds}
 
 -- ---- each rule decided
 
-all_mapped : (test : ℕ → Bool) (g : ℕ → ℕ) (xs : List ℕ) → list_all test (map g xs) ≡ list_all (λ x. test (g x)) xs
-all_mapped test g [] = refl
-all_mapped test g (x ∷ xs) = ap (λ (b : Bool). test (g x) && b) (all_mapped test g xs)
+-- two tests that agree on a range
+same_over : (p q : ℕ → Bool) (a n : ℕ) → ((k : ℕ) → a ≤ k → k < a + n → p k ≡ q k) → list_all p (range_with_len a n) ≡ list_all q (range_with_len a n)
+same_over p q a zero same = refl
+same_over p q a (suc n) same =
+    ap (λ (b : Bool). b && list_all p (range_with_len (a + 1) n)) (same a (omega arith) (omega arith))
+    ∙ ap (λ (b : Bool). q a && b) (same_over p q (a + 1) n (λ k low high. same k (omega (arith, low)) (omega (arith, high))))
+
+-- with fewer tugs in the fleet there are as many fewer in each slot
+fewer_in : (withdrawn slot fleet : ℕ) (later : List Step) → fleet_in (fleet - withdrawn) (map (lessened_step withdrawn) later) slot ≡ fleet_in fleet later slot - withdrawn
+fewer_in withdrawn slot fleet [] = refl
+fewer_in withdrawn slot fleet (step ∷ later) =
+    by_test (nat_le step.from slot) (fleet_in (step.fleet - withdrawn) (map (lessened_step withdrawn) later) slot) (fleet_in step.fleet later slot) (fewer_in withdrawn slot step.fleet later)
+  where
+    by_test : (b : Bool) (x y : ℕ) → x ≡ y - withdrawn → cond b x (fleet - withdrawn) ≡ cond b y fleet - withdrawn
+    by_test true x y e = e
+    by_test false x y e = refl
 
 -- a rule on tugs has the last rule's jobs
-own_jobs : (rules : List Rule) (place fleet : ℕ) (jobs : List Job) → TugsComeLast rules → slice_get rules place ≡ Some (Tugs fleet later jobs) → last_jobs rules ≡ jobs
-own_jobs rules place fleet jobs last e =
-    let at : length rules - 1 ≡ place = omega (arith, last place fleet jobs e) in
+own_jobs : (rules : List Rule) (place fleet : ℕ) (later : List Step) (jobs : List Job) → TugsComeLast rules → slice_get rules place ≡ Some (Tugs fleet later jobs) → last_jobs rules ≡ jobs
+own_jobs rules place fleet later jobs last e =
+    let at : length rules - 1 ≡ place = omega (arith, last place fleet later jobs e) in
     ap (λ n. jobs_of_tug_rule (slice_get rules n)) at ∙ ap jobs_of_tug_rule e
 
 pub kept_decides : (f : Problem) (table held : List ℕ) (withdrawn place : ℕ) (rule : Rule) → TugsComeLast f.rules → AreHeld f table held → slice_get f.rules place ≡ Some rule → decided_by_held_tugs f table held withdrawn rule ≡ holds_now f table withdrawn rule
 kept_decides f table held withdrawn place (Pair v w holes) last are e = refl
 kept_decides f table held withdrawn place (After v w gap) last are e = refl
 kept_decides f table held withdrawn place (Tugs fleet later jobs) last are e =
-    let test = λ (tugs : ℕ). nat_le tugs (fleet - withdrawn) in
-    let each = λ (slot : ℕ). sum_by (held_by table slot) jobs in
-    let same : last_jobs f.rules ≡ jobs = own_jobs f.rules place fleet jobs last e in
-    let all : held ≡ map each (range_with_len 0 (horizon f)) = fill_by_all each held (horizon f) 0 are.each_slot (λ slot lt. are.told slot lt ∙ ap (λ js. sum_by (held_by table slot) js) same) in
-    ap (list_all test) all ∙ all_mapped test each (range_with_len 0 (horizon f))
+    let same : last_jobs f.rules ≡ jobs = own_jobs f.rules place fleet later jobs last e in
+    let test = λ (slot : ℕ). nat_le (get_or held slot 0) (fleet_in fleet later slot - withdrawn) in
+    let kept = λ (slot : ℕ). nat_le (sum_by (held_by table slot) jobs) (fleet_in (fleet - withdrawn) (map (lessened_step withdrawn) later) slot) in
+    let each : (slot : ℕ) → slot < horizon f → test slot ≡ kept slot =
+    λ slot lt.
+    ap (λ (n : ℕ). nat_le n (fleet_in fleet later slot - withdrawn)) (are.told slot lt ∙ ap (λ js. sum_by (held_by table slot) js) same)
+    ∙ ap (λ (n : ℕ). nat_le (sum_by (held_by table slot) jobs) n) (sym (fewer_in withdrawn slot fleet later)) in
+    same_over test kept 0 (horizon f) (λ slot low high. each slot (omega (arith, high)))
 
 -- ---- what is left as it is
 

@@ -1,21 +1,20 @@
 -- Which timetables meet the plan that a day leaves.
-use Rattle.std.proofs.Common.{◌≡◌, ◌↔◌, ℕ, ◌<◌, ◌≤◌, Bool, true, false, List, Some, IfSome, slice_get, length, get_or, refl, sym, subst, ◌∙◌, arith}
+use Rattle.std.proofs.Common.{◌≡◌, ℕ, ◌<◌, ◌≤◌, Bool, true, false, List, Some, IfSome, slice_get, length, get_or, refl, sym, subst, ◌∙◌, arith}
 use Rattle.hw_lemmas.proofs.Truths.{if_some, if_some_from}
 use Rattle.hw_lemmas.proofs.Lists.{get_within}
-use Rattle.hw_plan_texts.specs.Fleets.{lessened}
 use Rattle.hw_model.specs.Problem.{Problem, IsTimetable}
 use Rattle.hw_model.specs.Timetables.{Permits}
 use Rattle.hw_port_model.specs.Flattened.{flattened}
 use Rattle.hw_port_model.specs.Numbers.{whole}
 use Rattle.hw_port_laws.proofs.Permits.{same_permitted_law}
 use Rattle.hw_audit.specs.Laws.{fewer_tugs}
-use Rattle.hw_audit.specs.Watching.{Watched, watched, IsWatched, has_sailed, after_all}
+use Rattle.hw_audit.specs.Watching.{Watched, watched, IsWatched, after_all}
 use Rattle.hw_audit.proofs.Begun.{of_port, watched_first}
 use Rattle.hw_audit.proofs.Ports.{lessened_port, port_kept}
 use Rattle.hw_audit.proofs.Taken.{all_taken}
 use Rattle.hw_repair.specs.declared.plan.Wish.{Wish}
-use Rattle.hw_repair.specs.Wishes.{Grants, PermitsPlan}
-use Rattle.hw_audit.specs.Carried.{reached, earliest, wish_now, wishes_now, carried_plan, LeavesSlot, KeepsDay}
+use Rattle.hw_repair.specs.Wishes.{Grants}
+use Rattle.hw_audit.specs.Carried.{reached, earliest, wish_now, carried_plan, KeepsDay}
 use Rattle.hw_audit.specs.CarriedLaws.{KeepsTheDay}
 use Rattle.hw_audit.proofs.Days.{wish_at, wishes_many, reached_each, each_reached, earliest_parts, earliest_from}
 

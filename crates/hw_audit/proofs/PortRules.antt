@@ -7,6 +7,7 @@ use Rattle.hw_model.specs.declared.rule.Hole.{Hole}
 use Rattle.hw_model.specs.declared.rule.Job.{Job}
 use Rattle.hw_model.specs.declared.rule.Rule.{Rule}
 use Rattle.hw_model.specs.declared.rule.Rule.TheVariants.{Pair, After, Tugs}
+use Rattle.hw_model.specs.declared.rule.Step.{Step}
 use Rattle.hw_port.specs.declared.parts.BerthPair.{BerthPair}
 use Rattle.hw_port.specs.declared.parts.AfterPair.{AfterPair}
 use Rattle.hw_port.specs.Parts.{ShipParts}
@@ -48,19 +49,19 @@ pub all_after : (pairs : List AfterPair) → Each2 (map after_rule pairs)
 all_after [] = tt
 all_after (a ∷ pairs) = (tt, all_after pairs)
 
-not_tugs : (rules : List Rule) (place fleet : ℕ) (jobs : List Job) → Each2 rules → slice_get rules place ≡ Some (Tugs fleet later jobs) → ⊥
-not_tugs [] place fleet jobs each e = absurd cc
-not_tugs (rule ∷ rules) zero fleet jobs each e = subst On2 (same_Some rule (Tugs fleet later jobs) e) each.0
-not_tugs (rule ∷ rules) (suc place) fleet jobs each e = not_tugs rules place fleet jobs each.1 e
+not_tugs : (rules : List Rule) (place fleet : ℕ) (later : List Step) (jobs : List Job) → Each2 rules → slice_get rules place ≡ Some (Tugs fleet later jobs) → ⊥
+not_tugs [] place fleet later jobs each e = absurd cc
+not_tugs (rule ∷ rules) zero fleet later jobs each e = subst On2 (same_Some rule (Tugs fleet later jobs) e) each.0
+not_tugs (rule ∷ rules) (suc place) fleet later jobs each e = not_tugs rules place fleet later jobs each.1 e
 
-at_last : (n place fleet : ℕ) (own jobs : List Job) → slice_get (tug_rule n own) place ≡ Some (Tugs fleet later jobs) → place + 1 ≡ length (tug_rule n own)
-at_last n place fleet [] jobs e = absurd cc
-at_last n zero fleet (job ∷ own) jobs e = omega arith
-at_last n (suc place) fleet (job ∷ own) jobs e = absurd cc
+at_last : (n place fleet : ℕ) (later : List Step) (own jobs : List Job) → slice_get (tug_rule n own) place ≡ Some (Tugs fleet later jobs) → place + 1 ≡ length (tug_rule n own)
+at_last n place fleet later [] jobs e = absurd cc
+at_last n zero fleet later (job ∷ own) jobs e = omega arith
+at_last n (suc place) fleet later (job ∷ own) jobs e = absurd cc
 
-prefixed : (rules last : List Rule) (place fleet : ℕ) (jobs : List Job) → Each2 rules → ((i : ℕ) → slice_get last i ≡ Some (Tugs fleet later jobs) → i + 1 ≡ length last) → slice_get (rules ++ last) place ≡ Some (Tugs fleet later jobs) → place + 1 ≡ length (rules ++ last)
-prefixed rules last place fleet jobs each own e = elim (cases_lt place (length rules)) [
-  | inl lt ↦ absurd (not_tugs rules place fleet jobs each (sym (get_left rules last place lt) ∙ e))
+prefixed : (rules last : List Rule) (place fleet : ℕ) (later : List Step) (jobs : List Job) → Each2 rules → ((i : ℕ) → slice_get last i ≡ Some (Tugs fleet later jobs) → i + 1 ≡ length last) → slice_get (rules ++ last) place ≡ Some (Tugs fleet later jobs) → place + 1 ≡ length (rules ++ last)
+prefixed rules last place fleet later jobs each own e = elim (cases_lt place (length rules)) [
+  | inl lt ↦ absurd (not_tugs rules place fleet later jobs each (sym (get_left rules last place lt) ∙ e))
   | inr le ↦
       let at : place ≡ length rules + (place - length rules) = omega (arith, le) in
       let there = own (place - length rules) (sym (get_right rules last (place - length rules) place at) ∙ e) in
@@ -68,8 +69,8 @@ prefixed rules last place fleet jobs each own e = elim (cases_lt place (length r
 ]
 
 pub tugs_last : (p : Parts) → TugsComeLast (rules_of p)
-tugs_last p place fleet jobs e =
+tugs_last p place fleet later jobs e =
     let tugs = tug_rule (whole p.fleet) (jobs_from p 0 p.ships) in
-    prefixed (pairs_from p 0 p.ships) (map berth_rule p.berths ++ (map after_rule p.after ++ tugs)) place fleet jobs (all_pairs p 0 p.ships)
-    (λ i h. prefixed (map berth_rule p.berths) (map after_rule p.after ++ tugs) i fleet jobs (all_berths p.berths)
-    (λ j k. prefixed (map after_rule p.after) tugs j fleet jobs (all_after p.after) (λ m. at_last (whole p.fleet) m fleet (jobs_from p 0 p.ships) jobs) k) h) e
+    prefixed (pairs_from p 0 p.ships) (map berth_rule p.berths ++ (map after_rule p.after ++ tugs)) place fleet later jobs (all_pairs p 0 p.ships)
+    (λ i h. prefixed (map berth_rule p.berths) (map after_rule p.after ++ tugs) i fleet later jobs (all_berths p.berths)
+    (λ j k. prefixed (map after_rule p.after) tugs j fleet later jobs (all_after p.after) (λ m. at_last (whole p.fleet) m fleet later (jobs_from p 0 p.ships) jobs) k) h) e

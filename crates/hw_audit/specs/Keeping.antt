@@ -1,11 +1,12 @@
 -- What an audit keeps besides its state, so that it tests again only what an event concerns.
 use Rattle.std.specs.Prelude.{◌≡◌, ◌==◌, ℕ, ◌+◌, ◌-◌, ◌<◌, Bool, true, false, ◌||◌, ◌&&◌, nat_le, nat_lt, is_some, if◌then◌else◌, List, [], length, sum_by, Option, Some, None, slice_get, slice_index, slice_index_or}
-use Rattle.std.specs.List.{list_all}
+use Rattle.std.specs.List.{list_all, range_with_len}
 use Rattle.hw_model.specs.declared.rule.Job.{Job}
 use Rattle.hw_model.specs.declared.rule.Rule.{Rule}
 use Rattle.hw_model.specs.declared.rule.Rule.TheVariants.{Pair, After, Tugs}
+use Rattle.hw_model.specs.declared.rule.Step.{Step}
 use Rattle.hw_model.specs.Problem.{Problem, horizon, value_at}
-use Rattle.hw_model.specs.Rules.{held_by, rule_holds}
+use Rattle.hw_model.specs.Rules.{held_by, rule_holds, fleet_in}
 use Rattle.hw_audit.specs.declared.marks.Concern.{Concern}
 use Rattle.hw_audit.specs.declared.marks.Concern.TheVariants.{Every, Ship, Fleet}
 use Rattle.hw_plan_texts.specs.Fleets.{lessened, lessened_rule}
@@ -15,7 +16,7 @@ use Rattle.hw_audit.specs.Watching.{Watched}
 
 -- no rule but the last one is on tugs
 abbrev pub TugsComeLast : List Rule → Type 0
-TugsComeLast rules = (place fleet : ℕ) (jobs : List Job) → slice_get rules place ≡ Some (Tugs fleet later jobs) → place + 1 ≡ length rules
+TugsComeLast rules = (place fleet : ℕ) (later : List Step) (jobs : List Job) → slice_get rules place ≡ Some (Tugs fleet later jobs) → place + 1 ≡ length rules
 
 -- the jobs of a rule on tugs
 abbrev pub jobs_of_tug_rule : Option Rule → List Job
@@ -51,7 +52,8 @@ holds_now f table withdrawn rule = rule_holds (lessened withdrawn f) table (less
 abbrev pub decided_by_held_tugs : Problem → List ℕ → List ℕ → ℕ → Rule → Bool
 decided_by_held_tugs f table held withdrawn (Pair v w holes) = rule_holds f table (Pair v w holes)
 decided_by_held_tugs f table held withdrawn (After v w gap) = rule_holds f table (After v w gap)
-decided_by_held_tugs f table held withdrawn (Tugs fleet later jobs) = list_all (λ tugs. nat_le tugs (fleet - withdrawn)) held
+decided_by_held_tugs f table held withdrawn (Tugs fleet later jobs) =
+    list_all (λ slot. nat_le (slice_index held slot) (fleet_in fleet later slot - withdrawn)) (range_with_len 0 (horizon f))
 
 -- which rules to test again: all at first; after a ship moved, its own and those on tugs; after the fleet changed, those on tugs
 abbrev pub concerns : Concern → Rule → Bool

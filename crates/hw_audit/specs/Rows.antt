@@ -10,11 +10,11 @@ use Rattle.hw_audit.specs.Text.{timetable_of_text, events_text}
 
 -- a ship with a value in the first of two slots; it holds two of four tugs for three slots
 abbrev pub lone_ship : Problem
-lone_ship = record { ships = 1; slots = 2; stay = false; values = Some 228_000 ∷ None ∷ []; rules = Tugs 4 (record { ship = 0; tugs = 2; hold = 3 } ∷ []) ∷ [] }
+lone_ship = record { ships = 1; slots = 2; stay = false; values = Some 228_000 ∷ None ∷ []; rules = Tugs 4 [] (record { ship = 0; tugs = 2; hold = 3 } ∷ []) ∷ [] }
 
 -- the same ship may stay
 abbrev pub lone_stays : Problem
-lone_stays = record { ships = 1; slots = 3; stay = true; values = Some 228_000 ∷ None ∷ Some 0 ∷ []; rules = Tugs 4 (record { ship = 0; tugs = 2; hold = 3 } ∷ []) ∷ [] }
+lone_stays = record { ships = 1; slots = 3; stay = true; values = Some 228_000 ∷ None ∷ Some 0 ∷ []; rules = Tugs 4 [] (record { ship = 0; tugs = 2; hold = 3 } ∷ []) ∷ [] }
 
 abbrev pub three_events : List PortEvent
 three_events = Withdrawn 3 ∷ Delayed 0 1 ∷ Back 2 ∷ []

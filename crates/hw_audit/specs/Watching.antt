@@ -24,7 +24,7 @@ watched table = record { table = table; sailed = replicate (length table) false;
 abbrev pub has_sailed : Watched → ℕ → Bool
 has_sailed s ship = slice_index_or s.sailed ship false
 
--- a timetable of the problem, a mark for each ship, and no more tugs withdrawn than the fleet has
+-- a timetable of the problem, a mark for each ship, and no more tugs withdrawn than the greatest fleet of any slot has
 pub record IsWatched (f : Problem) (fleet : ℕ) (s : Watched) : Type 0 where
   pub listed : IsTimetable f s.table
   pub each_ship : length s.sailed ≡ f.ships
@@ -41,7 +41,7 @@ refused_ship f s ship delayed slot =
     else if not (nat_lt slot (horizon f)) then Some words.Range
     else None
 
--- why an event is refused: for its ship; or it withdraws more tugs than are left, or brings back more than are withdrawn
+-- why an event is refused: for its ship; or it withdraws more tugs than are left of the greatest fleet of any slot, or brings back more than are withdrawn
 abbrev pub refused_event : Problem → ℕ → Watched → PortEvent → Option AuditWord
 refused_event f fleet s (Sailed ship slot) = refused_ship f s ship false slot
 refused_event f fleet s (Delayed ship count) = refused_ship f s ship true (slice_index s.table ship + count)

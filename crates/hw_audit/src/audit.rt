@@ -15,7 +15,7 @@ use crate::marks::{Concern, mend_marks};
 use crate::tugs::{first_held, move_job};
 use hw_draft::flatten;
 use hw_flat::{Flat, Timetable};
-use hw_model::{MOST_FLEET, NoMemory, ShipId, Slot};
+use hw_model::{MOST_PLAIN_FLEET, NoMemory, ShipId, Slot};
 use hw_port::Port;
 use hw_tide::Tide;
 use std::alloc::Global;
@@ -55,7 +55,7 @@ impl Model for Audit {
 /// The number of tugs of a port.
 fn fleet_of(port: &Port) -> u32
     ensures value { result ≡ whole port.now.fleet }
-    ensures few { result ≤ MOST_FLEET }
+    ensures few { result ≤ MOST_PLAIN_FLEET }
 {
     port.parts().fleet.unsigned_abs() as u32
 }
@@ -95,9 +95,9 @@ impl Audit {
     /// memory.
     ///
     /// A ship's event tests the rules that name the ship, and changes the tugs held in the slots of
-    /// its own job. Every event compares the tugs held in each slot with the fleet, looks at each
-    /// rule once to see whether it is concerned, and writes the list of what is broken again: so it
-    /// takes a step for each restriction and slot, and one for each hole of the rules tested.
+    /// its own job. Every event compares the tugs held in each slot with the slot's fleet, looks at
+    /// each rule once to see whether it is concerned, and writes the list of what is broken again: so
+    /// it takes a step for each restriction and slot, and one for each hole of the rules tested.
     pub fn apply(&mut self, event: PortEvent) -> Result<(), AuditWord>
         ensures { Applies event self.old self.new result }
     {

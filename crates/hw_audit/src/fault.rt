@@ -20,7 +20,8 @@ pub enum AuditWord {
     Sailed,
     /// The event delays a ship that stays.
     Stays,
-    /// More tugs are withdrawn than are left, or more are back than are withdrawn.
+    /// More tugs are withdrawn than are left of the greatest fleet of any slot, or more are back than
+    /// are withdrawn.
     Fleet,
     /// No byte after the end.
     Tail,

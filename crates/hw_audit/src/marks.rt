@@ -1,14 +1,15 @@
 //! Of each rule, whether it holds; and which marks an event concerns.
 
-ghost use Rattle.std.specs.Prelude.{◌≡◌, nat_le};
-ghost use Rattle.std.specs.List.{list_all};
+ghost use Rattle.std.specs.Prelude.{◌≡◌, ◌-◌, length, nat_le, slice_index};
+ghost use Rattle.std.specs.List.{list_all, range_with_len};
 ghost use Rattle.hw_model.specs.Limits.{RuleFits};
-ghost use Rattle.hw_model.specs.Problem.{IsTimetable};
+ghost use Rattle.hw_model.specs.Problem.{IsTimetable, horizon};
+ghost use Rattle.hw_model.specs.Rules.{fleet_in};
 ghost use Rattle.hw_audit.specs.Keeping.{AreHeld, AreMarks, AreOtherMarks, TugsComeLast, concerns, decided_by_held_tugs};
 
 use hw_flat::Flat;
-use hw_model::{Rule, ShipId, Slot};
-use hw_rules::allowed_pair;
+use hw_model::{Rule, ShipId, Slot, Step};
+use hw_rules::{Fleet, allowed_pair};
 
 /// The rules that may have begun or ceased to hold.
 #[derive(Clone, Copy)]
@@ -33,18 +34,27 @@ fn concerns(concern: Concern, rule: &Rule) -> bool
     }
 }
 
-/// Whether no slot holds more tugs than these.
-fn enough(held: &[u64], tugs: u32) -> bool
-    ensures value { result ≡ list_all (λ busy. nat_le busy tugs) held.now }
+/// Whether in each slot no more tugs are held than the fleet has in it, with this many fewer.
+fn enough(horizon: u32, held: &[u64], fleet: u32, later: &[Step], withdrawn: u32) -> bool
+    requires each_slot { length held.now ≡ horizon }
+    ensures value { result ≡ list_all (λ slot. nat_le (slice_index held.now slot) (fleet_in fleet later.now slot - withdrawn)) (range_with_len 0 horizon) }
 {
-    held.iter().all(|busy| *busy <= u64::from(tugs))
+    let mut tugs = Fleet::new(fleet, later);
+    for slot in 0..horizon {
+        let left = tugs.tugs_in(slot).saturating_sub(withdrawn);
+        if held[slot as usize] > u64::from(left) {
+            return false;
+        }
+    }
+    true
 }
 
 /// Whether a rule holds with this many tugs fewer, by the tugs held in each slot. It takes a step
-/// for each hole or slot.
+/// for each hole, or for each slot and step of the fleet.
 fn decided(flat: &Flat, table: &[Slot], held: &[u64], withdrawn: u32, rule: &Rule) -> bool
     requires listed { IsTimetable flat.now table.now }
     requires rule_fits { RuleFits flat.now.ships rule.now }
+    requires each_slot { length held.now ≡ horizon flat.now }
     ensures value { result ≡ decided_by_held_tugs flat.now table.now held.now withdrawn rule.now }
 {
     match rule {
@@ -55,7 +65,9 @@ fn decided(flat: &Flat, table: &[Slot], held: &[u64], withdrawn: u32, rule: &Rul
             table[*v as usize],
             table[*w as usize],
         ),
-        Rule::Tugs { fleet, .. } => enough(held, fleet.saturating_sub(withdrawn)),
+        Rule::Tugs { fleet, later, .. } => {
+            enough(flat.horizon(), held, *fleet, &later.items, withdrawn)
+        }
     }
 }
 
