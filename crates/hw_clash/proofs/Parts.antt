@@ -7,7 +7,7 @@ use Rattle.hw_plan_texts.proofs.Grids.{grid_length, grid_all, grid_value}
 use Rattle.std.proofs.lemmas.Option.{get_or_from_slice_get}
 use Rattle.hw_model.specs.declared.rule.Rule.{Rule}
 use Rattle.hw_model.specs.Problem.{Problem, IsTimetable, value_at, horizon}
-use Rattle.hw_model.specs.Limits.{IsFlat, RuleFits}
+use Rattle.hw_model.specs.Limits.{IsFlat, RuleFits, StepsSail}
 use Rattle.hw_model.specs.Rules.{rule_holds}
 use Rattle.hw_model.specs.Timetables.{Permits, plus, cargo_from, holds_at, restriction_holds, restriction_count}
 use Rattle.hw_clash.specs.Parts.{has, is_window_closed, is_refused, part_value, part, rules_in, Meets}
@@ -66,10 +66,10 @@ last_in f flat stay =
 last_none : (f : Wished) (kept : List ℕ) (ship : ℕ) → IsFlat f.problem → ship < f.problem.ships → IsTrue f.problem.stay → unwrap_or (value_at (part f kept) ship (horizon f.problem)) 0 ≡ 0
 last_none f kept ship flat lt stay = ap (λ o. unwrap_or o 0) (value_is f kept ship (horizon f.problem) lt (last_in f flat stay)) ∙ small_value (is_window_closed f kept ship (horizon f.problem) || is_refused f kept ship (horizon f.problem))
 
-rules_fit : (f : Wished) (kept : List ℕ) → IsFlat f.problem → All (RuleFits f.problem.ships) (rules_in kept f.problem.ships f.problem.rules)
-rules_fit f kept flat =
-    let each : Each (RuleFits f.problem.ships) f.problem.rules = each_of_all (RuleFits f.problem.ships) f.problem.rules flat.each_rule in
-    all_of_each (RuleFits f.problem.ships) (rules_in kept f.problem.ships f.problem.rules) (holds_kept (RuleFits f.problem.ships) kept f.problem.ships f.problem.rules (λ i k rule at e in'. if_some (RuleFits f.problem.ships) (slice_get f.problem.rules i) rule e (each_at (RuleFits f.problem.ships) f.problem.rules i each)))
+kept_rules : (P : Rule → Type 0) (f : Wished) (kept : List ℕ) → All P f.problem.rules → All P (rules_in kept f.problem.ships f.problem.rules)
+kept_rules P f kept all =
+    let each : Each P f.problem.rules = each_of_all P f.problem.rules all in
+    all_of_each P (rules_in kept f.problem.ships f.problem.rules) (holds_kept P kept f.problem.ships f.problem.rules (λ i k rule at e in'. if_some P (slice_get f.problem.rules i) rule e (each_at P f.problem.rules i each)))
 
 pub part_fits : PartFits
 part_fits f kept flat = record {
@@ -82,7 +82,8 @@ part_fits f kept flat = record {
     last_value = λ ship lt stay. at_most _ 1 (last_none f kept ship flat lt stay);
     small_values = grid_all (λ v. unwrap_or v 0 ≤ 1_000_000_000_000) (part_value f kept) f.problem.ships f.problem.slots (λ ship slot lt in'. at_most _ 1_000_000_000_000 (small_value (is_window_closed f kept ship slot || is_refused f kept ship slot)));
     few_rules = omega (arith, few_kept kept f.problem.ships f.problem.rules, flat.few_rules);
-    each_rule = rules_fit f kept flat;
+    each_rule = kept_rules (RuleFits f.problem.ships) f kept flat.each_rule;
+    steps_sail = kept_rules (StepsSail (horizon f.problem)) f kept flat.steps_sail;
   };
   writable = λ ship lt stay. last_none f kept ship flat lt stay;
 }
