@@ -5,7 +5,7 @@ use Rattle.hw_model.specs.declared.rule.Rule.{Rule}
 use Rattle.hw_model.specs.declared.rule.Rule.TheVariants.{Pair, After, Tugs}
 use Rattle.hw_model.specs.declared.rule.Step.{Step}
 use Rattle.hw_model.specs.Problem.{Problem, horizon}
-use Rattle.hw_model.specs.Rules.{fleet_in}
+use Rattle.hw_rules.specs.Fleets.{rule_jobs}
 use Rattle.hw_chart_flat.specs.declared.fleets.Fleets.{Fleets}
 
 -- a rule on tugs
@@ -15,10 +15,10 @@ is_fleet (After v w gap) = false
 is_fleet (Tugs fleet later jobs) = true
 
 -- the tugs with which a rule's fleet begins
-abbrev pub fleet_of : Rule → ℕ
-fleet_of (Pair v w holes) = 0
-fleet_of (After v w gap) = 0
-fleet_of (Tugs fleet later jobs) = fleet
+abbrev pub first_fleet : Rule → ℕ
+first_fleet (Pair v w holes) = 0
+first_fleet (After v w gap) = 0
+first_fleet (Tugs fleet later jobs) = fleet
 
 -- the steps that follow
 abbrev pub steps_of : Rule → List Step
@@ -27,12 +27,8 @@ steps_of (After v w gap) = []
 steps_of (Tugs fleet later jobs) = later
 
 -- the fleet hasn't one number of tugs for all slots
-abbrev pub has_hours : Rule → Bool
-has_hours rule = nat_lt 0 (length (steps_of rule))
-
--- the tugs that a rule's fleet has in a slot
-abbrev pub fleet_at : Rule → ℕ → ℕ
-fleet_at rule slot = fleet_in (fleet_of rule) (steps_of rule) slot
+abbrev pub has_steps : Rule → Bool
+has_steps rule = nat_lt 0 (length (steps_of rule))
 
 -- the greatest and the least number of tugs of a fleet that begins so and has these steps
 abbrev pub greatest_fleet : ℕ → List Step → ℕ
@@ -42,11 +38,6 @@ greatest_fleet fleet (step ∷ later) = max fleet (greatest_fleet step.fleet lat
 abbrev pub least_fleet : ℕ → List Step → ℕ
 least_fleet fleet [] = fleet
 least_fleet fleet (step ∷ later) = min fleet (least_fleet step.fleet later)
-
-abbrev pub jobs_of_rule : Rule → List Job
-jobs_of_rule (Pair v w holes) = []
-jobs_of_rule (After v w gap) = []
-jobs_of_rule (Tugs fleet later jobs) = jobs
 
 -- the first of the rules on tugs, at most `count`
 abbrev pub first_fleets : ℕ → List Rule → List Rule
@@ -71,7 +62,7 @@ jobs_end slots table (job ∷ jobs) = max (job_end slots table job) (jobs_end sl
 -- the last end of the jobs of several fleets, and at least the number of slots in which ships sail
 abbrev pub fleets_end : ℕ → List ℕ → List Rule → ℕ
 fleets_end slots table [] = slots
-fleets_end slots table (rule ∷ rules) = max (jobs_end slots table (jobs_of_rule rule)) (fleets_end slots table rules)
+fleets_end slots table (rule ∷ rules) = max (jobs_end slots table (rule_jobs rule)) (fleets_end slots table rules)
 
 -- how many slots a picture shows: those in which ships sail, and as many more as its tugs are held
 unfoldable pub picture_span : Problem → Option (List ℕ) → ℕ

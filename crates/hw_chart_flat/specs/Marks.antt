@@ -8,7 +8,8 @@ use Rattle.hw_model.specs.Rules.{busy}
 use Rattle.hw_chart.specs.Figures.{is_met, is_top_touched}
 use Rattle.hw_chart_flat.specs.declared.marks.FlatMark.{FlatMark}
 use Rattle.hw_chart_flat.specs.declared.marks.FlatMark.TheVariants.{HasValue, HasMost, CouldMove, Sails, HoldsTugs, MustWait, WholeFleet}
-use Rattle.hw_chart_flat.specs.Fleets.{fleet_at, fleets, jobs_of_rule}
+use Rattle.hw_chart_flat.specs.Fleets.{fleets}
+use Rattle.hw_rules.specs.Fleets.{rule_fleet, rule_jobs}
 use Rattle.hw_chart_flat.specs.Moves.{flat_open_level}
 use Rattle.hw_chart_flat.specs.Values.{sails_nowhere}
 
@@ -26,7 +27,7 @@ some_sails slots table = list_any (λ slot. nat_lt slot slots) table
 
 -- a job of a fleet's is that of a ship that sails
 abbrev pub holds_some : ℕ → List ℕ → Rule → Bool
-holds_some slots table rule = list_any (λ job. nat_lt (slice_index table job.ship) slots) (jobs_of_rule rule)
+holds_some slots table rule = list_any (λ job. nat_lt (slice_index table job.ship) slots) (rule_jobs rule)
 
 -- the second ship of a rule sails, and some time must pass after the first
 abbrev pub awaits_first : ℕ → List ℕ → Rule → Bool
@@ -36,7 +37,7 @@ awaits_first slots table (Tugs fleet later jobs) = false
 
 -- a fleet is held whole in some slot
 abbrev pub is_held_whole : ℕ → List ℕ → Rule → Bool
-is_held_whole slots table rule = is_met (busy rule table) (fleet_at rule) slots
+is_held_whole slots table rule = is_met (busy rule table) (rule_fleet rule) slots
 
 -- the picture of a timetable has this mark
 abbrev pub planned_has : Problem → List ℕ → FlatMark → Bool

@@ -14,7 +14,8 @@ use Rattle.hw_chart.specs.Grids.{grid, span_end}
 use Rattle.hw_chart.specs.Headings.{heading}
 use Rattle.hw_chart.specs.Hours.{planned_hours, unplanned_hours}
 use Rattle.hw_chart.specs.Panels.{planned_panel, unplanned_panel}
-use Rattle.hw_chart_flat.specs.Fleets.{fleet_at, fleet_of, fleets, greatest_fleet, has_hours, least_fleet, picture_span, steps_of}
+use Rattle.hw_chart_flat.specs.Fleets.{first_fleet, fleets, greatest_fleet, has_steps, least_fleet, picture_span, steps_of}
+use Rattle.hw_rules.specs.Fleets.{rule_fleet}
 use Rattle.hw_chart_flat.specs.Legends.{flat_legend}
 use Rattle.hw_chart_flat.specs.Rows.{planned_rows, unplanned_rows}
 
@@ -38,18 +39,18 @@ flat_columns = line (codes "m r") 956 138 (codes "slot") ++ line (codes "m r") 1
 
 -- a panel for the fleet of a rule, as high as the greatest number of its tugs
 abbrev pub flat_panel_of : Problem → ℕ → ℕ → Rule → Panel
-flat_panel_of f span y rule = record { y = y; fleet = greatest_fleet (fleet_of rule) (steps_of rule); slots = horizon f; span = span }
+flat_panel_of f span y rule = record { y = y; fleet = greatest_fleet (first_fleet rule) (steps_of rule); slots = horizon f; span = span }
 
 -- what there is of a fleet, by the hour where it has steps
 abbrev pub unplanned_fleet : Problem → ℕ → ℕ → Rule → List ℕ
 unplanned_fleet f span y rule =
-    if has_hours rule then unplanned_hours (flat_panel_of f span y rule) (least_fleet (fleet_of rule) (steps_of rule)) (fleet_at rule)
+    if has_steps rule then unplanned_hours (flat_panel_of f span y rule) (least_fleet (first_fleet rule) (steps_of rule)) (rule_fleet rule)
     else unplanned_panel (flat_panel_of f span y rule)
 
 -- and beside it the tugs that a timetable holds in each slot
 abbrev pub planned_fleet : Problem → List ℕ → ℕ → ℕ → Rule → List ℕ
 planned_fleet f table span y rule =
-    if has_hours rule then planned_hours (flat_panel_of f span y rule) (least_fleet (fleet_of rule) (steps_of rule)) (fleet_at rule) (busy rule table)
+    if has_steps rule then planned_hours (flat_panel_of f span y rule) (least_fleet (first_fleet rule) (steps_of rule)) (rule_fleet rule) (busy rule table)
     else planned_panel (flat_panel_of f span y rule) (busy rule table)
 
 abbrev pub unplanned_panels : Problem → ℕ → ℕ → List Rule → List ℕ

@@ -14,7 +14,8 @@ use Rattle.hw_chart.specs.Courses.{course_of}
 use Rattle.hw_chart.specs.Layout.{pin, rank_of, stripe}
 use Rattle.hw_chart.specs.Rows.{bar, bars_begin, moves_window, no_slot, sailing_mark, sailing_steps, sailings_begin, stays_label}
 use Rattle.hw_chart_flat.specs.declared.row.Row.{Row}
-use Rattle.hw_chart_flat.specs.Fleets.{fleets, jobs_of_rule, picture_span}
+use Rattle.hw_chart_flat.specs.Fleets.{fleets, picture_span}
+use Rattle.hw_rules.specs.Fleets.{rule_jobs}
 use Rattle.hw_chart_flat.specs.Moves.{flat_open_level}
 use Rattle.hw_chart_flat.specs.Values.{cargo_in_slot, most_carried, most_level, sails_nowhere, tall_of, value_level}
 
@@ -76,7 +77,7 @@ job_bars slot ship (job ∷ jobs) = job_bar slot ship job ++ job_bars slot ship 
 
 abbrev pub fleet_bars : ℕ → ℕ → List Rule → List ℕ
 fleet_bars slot ship [] = []
-fleet_bars slot ship (rule ∷ rules) = job_bars slot ship (jobs_of_rule rule) ++ fleet_bars slot ship rules
+fleet_bars slot ship (rule ∷ rules) = job_bars slot ship (rule_jobs rule) ++ fleet_bars slot ship rules
 
 unfoldable pub flat_bars : Problem → List ℕ → Row → ℕ → List ℕ
 flat_bars f table row slot = joined (bars_begin (row_top row) row.span ∷ flat_wait_bars table row.ship f.rules ∷ fleet_bars slot row.ship (fleets f) ∷ svg_end ∷ [])

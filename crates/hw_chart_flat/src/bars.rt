@@ -7,13 +7,14 @@ ghost use Rattle.hw_desk.specs.Writers.{Puts};
 ghost use Rattle.hw_chart_flat.specs.Fleets.{fleets_in};
 ghost use Rattle.hw_chart_flat.specs.Rows.{flat_bars, fleet_bars, job_bar, job_bars, wait_bar, flat_wait_bars};
 
-use crate::fleets::{Fleets, fleets_of, jobs, next};
+use crate::fleets::{Fleets, fleets_of, next};
 use crate::row::{Row, row_y};
 use hw_chart::{put_bar, put_bars_begin};
 use hw_chart_svg::put_svg_end;
 use hw_desk::Writer;
 use hw_flat::{Flat, Timetable};
 use hw_model::{Job, MOST_SHIPS, Rule, ShipId, Slot};
+use hw_rules::rule_jobs;
 
 /// Puts how long a ship must wait for another by a rule.
 fn put_wait_bar<W: Writer>(out: &mut W, table: &[Slot], ship: ShipId, rule: &Rule)
@@ -70,7 +71,7 @@ fn put_fleet_bars<W: Writer>(out: &mut W, slot: Slot, ship: ShipId, fleets: Flee
     ensures { Puts (fleet_bars slot ship (fleets_in fleets.entry)) (W.state out.old) (W.state out.new) }
 {
     if let Some(found) = next(fleets) {
-        put_job_bars(out, slot, ship, jobs(found.rule));
+        put_job_bars(out, slot, ship, rule_jobs(found.rule));
         put_fleet_bars(out, slot, ship, found.rest);
     }
 }

@@ -2,10 +2,10 @@
 
 ghost use Rattle.std.specs.Prelude.{◌≡◌, ◌≤◌, ◌<◌, ℕ, [], ◌∷◌, All, IfSome, IsNone, length};
 ghost use Rattle.hw_model.specs.Limits.{RuleFits};
-ghost use Rattle.hw_chart_flat.specs.Fleets.{fleet_of, fleets, fleets_in, greatest_fleet, has_hours, is_fleet, jobs_of_rule, least_fleet, steps_of};
+ghost use Rattle.hw_chart_flat.specs.Fleets.{first_fleet, fleets, fleets_in, greatest_fleet, has_steps, is_fleet, least_fleet, steps_of};
 
 use hw_flat::Flat;
-use hw_model::{Job, Rule, Step};
+use hw_model::{Rule, Step};
 
 /// Rules, the place from which they are read, and how many of their fleets a picture still shows.
 #[derive(Clone, Copy)]
@@ -81,7 +81,7 @@ pub(crate) fn count(fleets: Fleets) -> u32
 
 /// The tugs with which a rule's fleet begins.
 pub(crate) fn fleet_size(rule: &Rule) -> u32
-    ensures { result ≡ fleet_of rule.now }
+    ensures { result ≡ first_fleet rule.now }
 {
     match rule {
         Rule::Pair { .. } | Rule::After { .. } => 0,
@@ -100,8 +100,8 @@ pub(crate) fn steps(rule: &Rule) -> &[Step]
 }
 
 /// Whether the fleet hasn't one number of tugs for all slots.
-pub(crate) fn has_hours(rule: &Rule) -> bool
-    ensures { result ≡ has_hours rule.now }
+pub(crate) fn has_steps(rule: &Rule) -> bool
+    ensures { result ≡ has_steps rule.now }
 {
     !steps(rule).is_empty()
 }
@@ -123,15 +123,5 @@ pub(crate) fn least_fleet(fleet: u32, later: &[Step]) -> u32
     match later {
         [] => fleet,
         [step, more @ ..] => fleet.min(least_fleet(step.fleet, more)),
-    }
-}
-
-/// The jobs of a rule's fleet.
-pub(crate) fn jobs(rule: &Rule) -> &[Job]
-    ensures { result.now ≡ jobs_of_rule rule.now }
-{
-    match rule {
-        Rule::Pair { .. } | Rule::After { .. } => &[],
-        Rule::Tugs { jobs, .. } => &jobs.items,
     }
 }

@@ -8,13 +8,14 @@ ghost use Rattle.hw_chart_flat.specs.Fleets.{fleets_in};
 ghost use Rattle.hw_chart_flat.specs.Marks.{awaits_first, holds_some, is_flat_marked, is_held_whole as held_whole, planned_has, some_could_move as could_move_somewhere, some_has_value as value_somewhere, some_sails as sails_somewhere, unplanned_has};
 ghost use Rattle.hw_chart_flat.specs.Moves.{IsPlan};
 
-use crate::fleets::{Fleets, fleets_of, jobs, next};
+use crate::fleets::{Fleets, fleets_of, next};
 use crate::panels::is_held_whole;
 use crate::plan::Plan;
 use crate::rows::could_move;
 use crate::values::sails_nowhere;
 use hw_flat::{Flat, Timetable};
 use hw_model::{Job, Rule, Slot};
+use hw_rules::rule_jobs;
 
 /// A kind of mark that the legend names: a slot in which a ship has a value, one with its most, one to which it alone could
 /// move, a sailing, its tugs, that it must wait for another ship, and a fleet of which all tugs are held.
@@ -72,7 +73,7 @@ fn some_hold_tugs(slots: u32, table: &Timetable, fleets: Fleets) -> bool
     match next(fleets) {
         None => false,
         Some(found) => {
-            some_job_is_done(slots, table.as_slice(), jobs(found.rule))
+            some_job_is_done(slots, table.as_slice(), rule_jobs(found.rule))
                 || some_hold_tugs(slots, table, found.rest)
         }
     }

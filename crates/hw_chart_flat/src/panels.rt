@@ -5,19 +5,20 @@ ghost use Rattle.hw_model.specs.Limits.{RuleFits};
 ghost use Rattle.hw_model.specs.Problem.{IsTimetable};
 ghost use Rattle.hw_model.specs.Rules.{busy};
 ghost use Rattle.hw_desk.specs.Writers.{Puts};
-ghost use Rattle.hw_chart_flat.specs.Fleets.{fleet_at, fleet_of, fleets_in, least_fleet, steps_of};
+ghost use Rattle.hw_chart_flat.specs.Fleets.{first_fleet, fleets_in, least_fleet, steps_of};
+ghost use Rattle.hw_rules.specs.Fleets.{rule_fleet};
 ghost use Rattle.hw_chart_flat.specs.Marks.{is_held_whole};
 ghost use Rattle.hw_chart_flat.specs.Pictures.{flat_panel_of, planned_fleet, planned_panels, unplanned_fleet, unplanned_panels};
 
-use crate::fleets::{Fleets, fleet_size, greatest_fleet, has_hours, least_fleet, next, steps};
+use crate::fleets::{Fleets, fleet_size, greatest_fleet, has_steps, least_fleet, next, steps};
 use hw_chart::{
     Panel, meets, put_planned_hours, put_planned_panel, put_unplanned_hours, put_unplanned_panel,
 };
 use hw_chart_svg::Levels;
 use hw_desk::Writer;
 use hw_flat::{Flat, Timetable};
-use hw_model::{Rule, fleet_in};
-use hw_rules::busy;
+use hw_model::Rule;
+use hw_rules::{busy, rule_fleet};
 
 /// The tugs that a fleet holds in each slot.
 #[derive(Drop)]
@@ -44,12 +45,12 @@ struct Hours<'h> {
 }
 
 impl Levels for Hours<'_> {
-    ghost level = { λ h. fleet_at h.rule.now };
+    ghost level = { λ h. rule_fleet h.rule.now };
 
     ghost end = { λ h. 2 ^ 32 };
 
     fn level(&self, slot: u32) -> u64 {
-        u64::from(fleet_in(fleet_size(self.rule), steps(self.rule), slot))
+        u64::from(rule_fleet(self.rule, slot))
     }
 }
 
@@ -67,7 +68,7 @@ fn panel(flat: &Flat, span: u32, y: u32, rule: &Rule) -> Panel
 
 /// The least number of tugs of a fleet.
 fn least(rule: &Rule) -> u64
-    ensures { result ≡ least_fleet (fleet_of rule.now) (steps_of rule.now) }
+    ensures { result ≡ least_fleet (first_fleet rule.now) (steps_of rule.now) }
 {
     u64::from(least_fleet(fleet_size(rule), steps(rule)))
 }
@@ -77,7 +78,7 @@ fn put_unplanned_fleet<W: Writer>(out: &mut W, flat: &Flat, span: u32, y: u32, r
     ensures { Puts (unplanned_fleet flat.now span y rule.now) (W.state out.old) (W.state out.new) }
 {
     let panel = panel(flat, span, y, rule);
-    if has_hours(rule) {
+    if has_steps(rule) {
         put_unplanned_hours(out, panel, least(rule), &Hours { rule });
     } else {
         put_unplanned_panel(out, panel);
@@ -98,7 +99,7 @@ fn put_planned_fleet<W: Writer>(
 {
     let panel = panel(flat, span, y, rule);
     let held = Held { rule, table };
-    if has_hours(rule) {
+    if has_steps(rule) {
         put_planned_hours(out, panel, least(rule), &Hours { rule }, &held);
     } else {
         put_planned_panel(out, panel, &held);

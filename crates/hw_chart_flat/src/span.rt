@@ -5,9 +5,10 @@ ghost use Rattle.hw_model.specs.Problem.{IsTimetable, horizon};
 ghost use Rattle.hw_model.specs.Limits.{JobFits, RuleFits};
 ghost use Rattle.hw_chart_flat.specs.Fleets.{fleets_end, fleets_in, job_end, jobs_end, picture_span};
 
-use crate::fleets::{Fleets, fleets_of, jobs, next};
+use crate::fleets::{Fleets, fleets_of, next};
 use hw_flat::{Flat, Timetable};
 use hw_model::{Job, MOST_SLOTS, Slot};
+use hw_rules::rule_jobs;
 
 /// The end of a job of a ship that sails.
 fn job_end(slots: u32, table: &[Slot], job: &Job) -> u32
@@ -44,7 +45,7 @@ fn fleets_end(slots: u32, table: &Timetable, fleets: Fleets) -> u32
     match next(fleets) {
         None => slots,
         Some(found) => {
-            let end = jobs_end(slots, table.as_slice(), jobs(found.rule));
+            let end = jobs_end(slots, table.as_slice(), rule_jobs(found.rule));
             end.max(fleets_end(slots, table, found.rest))
         }
     }

@@ -13,7 +13,8 @@ use Rattle.hw_chart.specs.Layout.{plot, stripe}
 use Rattle.hw_chart.specs.Legends.{legend_begin}
 use Rattle.hw_chart.specs.Rows.{moves_window}
 use Rattle.hw_chart_flat.specs.declared.row.Row.{Row}
-use Rattle.hw_chart_flat.specs.Fleets.{fleet_at, fleets, has_hours, jobs_of_rule}
+use Rattle.hw_chart_flat.specs.Fleets.{fleets, has_steps}
+use Rattle.hw_rules.specs.Fleets.{rule_fleet, rule_jobs}
 use Rattle.hw_chart_flat.specs.declared.marks.FlatMark.{FlatMark}
 use Rattle.hw_chart_flat.specs.declared.marks.FlatMark.TheVariants as marks
 use Rattle.hw_chart_flat.specs.Legends.{all_flat_marks, flat_entries, flat_entry, flat_legend}
@@ -87,7 +88,7 @@ module _ {P : Tags → List ℕ → Tags → Type 0} (w : Writing P) where
 
   of_fleets : {a : Tags} (slot ship : ℕ) (rules : List Rule) → P a (fleet_bars slot ship rules) a
   of_fleets slot ship [] = w.none
-  of_fleets slot ship (rule ∷ rules) = w.onward (of_jobs slot ship (jobs_of_rule rule)) (of_fleets slot ship rules)
+  of_fleets slot ship (rule ∷ rules) = w.onward (of_jobs slot ship (rule_jobs rule)) (of_fleets slot ship rules)
 
   of_bars : {a : Tags} (f : Problem) (table : List ℕ) (row : Row) (slot : ℕ) → P a (flat_bars f table row slot) a
   unfolding flat_bars
@@ -111,10 +112,10 @@ module _ {P : Tags → List ℕ → Tags → Type 0} (w : Writing P) where
   of_unplanned_rest f row = w.onward (of_stripe w row.rank (row_top row)) (w.onward (of_row_label f row) (w.onward (of_values f row) (w.onward (if_so w (sails_nowhere f row.ship) (of_no_slot w (row_top row))) w.finished)))
 
   of_unplanned_fleet : {a : Tags} (f : Problem) (span y : ℕ) (rule : Rule) → P a (unplanned_fleet f span y rule) a
-  of_unplanned_fleet {a = a} f span y rule = cond_both (has_hours rule) _ _ (λ (t : List ℕ). P a t a) (λ e. of_unplanned_hours w (flat_panel_of f span y rule) _ (fleet_at rule)) (λ e. of_unplanned w (flat_panel_of f span y rule))
+  of_unplanned_fleet {a = a} f span y rule = cond_both (has_steps rule) _ _ (λ (t : List ℕ). P a t a) (λ e. of_unplanned_hours w (flat_panel_of f span y rule) _ (rule_fleet rule)) (λ e. of_unplanned w (flat_panel_of f span y rule))
 
   of_planned_fleet : {a : Tags} (f : Problem) (table : List ℕ) (span y : ℕ) (rule : Rule) → P a (planned_fleet f table span y rule) a
-  of_planned_fleet {a = a} f table span y rule = cond_both (has_hours rule) _ _ (λ (t : List ℕ). P a t a) (λ e. of_planned_hours w (flat_panel_of f span y rule) _ (fleet_at rule) (busy rule table)) (λ e. of_planned w (flat_panel_of f span y rule) (busy rule table))
+  of_planned_fleet {a = a} f table span y rule = cond_both (has_steps rule) _ _ (λ (t : List ℕ). P a t a) (λ e. of_planned_hours w (flat_panel_of f span y rule) _ (rule_fleet rule) (busy rule table)) (λ e. of_planned w (flat_panel_of f span y rule) (busy rule table))
 
   pub of_unplanned_panels : {a : Tags} (f : Problem) (span y : ℕ) (rules : List Rule) → P a (unplanned_panels f span y rules) a
   of_unplanned_panels f span y [] = w.none

@@ -13,7 +13,7 @@ use Rattle.hw_text.proofs.Spelled.{is_spelled}
 use Rattle.hw_text.proofs.Signs.{from_to_is}
 use Rattle.hw_flat.specs.declared.fault.FlatWord.{FlatWord}
 use Rattle.hw_flat.specs.declared.fault.FlatWord.TheVariants as words
-use Rattle.hw_flat.specs.Text.{Fault, fault, formed, line_at, row_at, rows_at, rule_before, rules_at, hours_needed, problem_of, closed, problem_of_lines}
+use Rattle.hw_flat.specs.Text.{Fault, fault, formed, line_at, row_at, rows_at, rule_before, rules_at, hours_needed, problem_of, finished, problem_of_lines}
 use Rattle.hw_flat.specs.TextForms.{header_form, both, size_words, size_form, value_word, stay_word, last_values, row_values, row_words, row_form, rule_form, any_hours}
 use Rattle.hw_flat.specs.TextWritten.{header_text, size_text, value_text, stay_text, row_texts, row_text, rule_text, rows_in, problem_lines, IsWritable}
 use Rattle.hw_flat.proofs.HourRules.{RuleIn, hours_are}
@@ -356,8 +356,8 @@ problem_read parts stay hours size values rules first second rest third header z
         ∙ sym (append_assoc (map (row_text size.1) (rows_in size.0 (width stay size.1) values) ++ map rule_text rules) (codes "end" ∷ []) ([] ∷ []))
 
 -- the end of a text that reads: a rule needs the hours that there are, and nothing is left
-closed_read : (version : Bool × Bool) (size : ℕ × ℕ) (values : Row) (rules : List Rule) (parts : List (List ℕ)) (f : Problem) → closed version size values rules parts ≡ Ok f → (hours_needed version.1 rules ≡ true) × (at_end parts ≡ true) × (problem_of version.0 size values rules ≡ f)
-closed_read version size values rules parts f h =
+finished_read : (version : Bool × Bool) (size : ℕ × ℕ) (values : Row) (rules : List Rule) (parts : List (List ℕ)) (f : Problem) → finished version size values rules parts ≡ Ok f → (hours_needed version.1 rules ≡ true) × (at_end parts ≡ true) × (problem_of version.0 size values rules ≡ f)
+finished_read version size values rules parts f h =
     elim (hours_needed version.1 rules) as (λ n. hours_needed version.1 rules ≡ n → cond n (cond (at_end parts) (Ok (problem_of version.0 size values rules)) (fault (4 + size.0 + length rules) words.Tail)) (fault (3 + size.0 + length rules) words.Rule) ≡ Ok f
     → (hours_needed version.1 rules ≡ true) × (at_end parts ≡ true) × (problem_of version.0 size values rules ≡ f)) [
       | true ↦ λ needed j.
@@ -380,7 +380,7 @@ text_read parts f h =
     let rows = rows_read s.0.0 z.0.1 3 z.0.0 b.0.1 r.0 r.1 in
     let u = step (rules_at (rule_form s.0.1 z.0.0 z.0.1) (3 + z.0.0) 4_000 r.0.1) _ f r.2 in
     let rules = rules_read s.0.1 z.0.0 z.0.1 (3 + z.0.0) 4_000 r.0.1 u.0 size.few_ships size.few_slots u.1 in
-    let end = closed_read s.0 z.0 r.0.0 u.0.0 u.0.1 f u.2 in
+    let end = finished_read s.0 z.0 r.0.0 u.0.0 u.0.1 f u.2 in
     let header = header_read a.0.0 s.0 (is_formed 1 words.Header (header_form a.0.0) s.0 s.1) in
     let third : b.0.1 ≡ map (row_text z.0.1) (rows_in z.0.0 (width s.0.0 z.0.1) r.0.0) ++ (map rule_text u.0.0 ++ codes "end" ∷ [] ∷ []) =
     rows.0 ∙ ap (λ ps. map (row_text z.0.1) (rows_in z.0.0 (width s.0.0 z.0.1) r.0.0) ++ ps) (rules.0 ∙ ap (λ ps. map rule_text u.0.0 ++ codes "end" ∷ ps) (nothing_left u.0.1 end.1)) in

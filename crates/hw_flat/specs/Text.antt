@@ -66,8 +66,8 @@ abbrev pub problem_of : Bool → ℕ × ℕ → List (Option ℕ) → List Rule 
 problem_of stay size values rules = record { ships = size.0; slots = if stay then size.1 + 1 else size.1; stay = stay; values = values; rules = rules }
 
 -- the problem of what stands before `end`: where fleets have hours, `end` comes after a rule that needs them, and it ends the text
-abbrev pub closed : Bool × Bool → ℕ × ℕ → List (Option ℕ) → List Rule → List (List ℕ) → Result Problem Fault
-closed version size values rules parts =
+abbrev pub finished : Bool × Bool → ℕ × ℕ → List (Option ℕ) → List Rule → List (List ℕ) → Result Problem Fault
+finished version size values rules parts =
     if hours_needed version.1 rules then
     if at_end parts then Ok (problem_of version.0 size values rules) else fault (4 + size.0 + length rules) words.Tail
     else fault (3 + size.0 + length rules) words.Rule
@@ -81,7 +81,7 @@ problem_of_lines parts = do
   size ← formed 2 words.Size (size_form second.0)
   rows ← rows_at version.0 size.1 3 size.0 second.1
   rules ← rules_at (rule_form version.1 size.0 size.1) (3 + size.0) MOST_RULES rows.1
-  closed version size rows.0 rules.0 rules.1
+  finished version size rows.0 rules.0 rules.1
 
 -- what a text says: a problem, or the first line that isn't of the form demanded at its place
 abbrev pub flat_text : List ℕ → Result Problem Fault

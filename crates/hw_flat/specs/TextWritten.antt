@@ -78,10 +78,6 @@ problem_lines f =
 abbrev pub problem_text : Problem → List ℕ
 problem_text f = ended_lines (problem_lines f)
 
--- a rule has steps or a fleet above those of texts without hours. Then the version is 3, or 4 where ships may stay
-abbrev pub HasHours : Problem → Type 0
-HasHours f = IsTrue (any_hours f.rules)
-
 -- where ships may stay, each has no value or 0 in the last slot, as a text says it
 abbrev pub IsWritable : Problem → Type 0
 IsWritable f = (ship : ℕ) → ship < f.ships → IsTrue f.stay → unwrap_or (value_at f ship (horizon f)) 0 ≡ 0

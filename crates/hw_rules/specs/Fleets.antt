@@ -12,13 +12,13 @@ pub record FleetFrom : Type 0 where
   pub later : List Step
 
 -- the tugs that a rule's fleet has in a slot; a rule on two ships has none
-abbrev pub fleet_of : Rule → ℕ → ℕ
-fleet_of (Pair v w holes) slot = 0
-fleet_of (After v w gap) slot = 0
-fleet_of (Tugs fleet later jobs) slot = fleet_in fleet later slot
+abbrev pub rule_fleet : Rule → ℕ → ℕ
+rule_fleet (Pair v w holes) slot = 0
+rule_fleet (After v w gap) slot = 0
+rule_fleet (Tugs fleet later jobs) slot = fleet_in fleet later slot
 
 -- the jobs of a rule; a rule on two ships has none
-abbrev pub jobs_of : Rule → List Job
-jobs_of (Pair v w holes) = []
-jobs_of (After v w gap) = []
-jobs_of (Tugs fleet later jobs) = jobs
+abbrev pub rule_jobs : Rule → List Job
+rule_jobs (Pair v w holes) = []
+rule_jobs (After v w gap) = []
+rule_jobs (Tugs fleet later jobs) = jobs

@@ -3,7 +3,7 @@
 //! Wrong bodies that are refused: `the_first_fleet_for_every_slot`, `a_step_one_slot_late`.
 ghost use Rattle.std.specs.Prelude.{◌≡◌, ◌≤◌, ℕ};
 ghost use Rattle.hw_model.specs.Rules.{fleet_in};
-ghost use Rattle.hw_rules.specs.Fleets.{fleet_of, jobs_of};
+ghost use Rattle.hw_rules.specs.Fleets.{rule_fleet, rule_jobs};
 
 use hw_flat::Rule;
 use hw_model::{Job, Slot, Step, fleet_in};
@@ -34,16 +34,6 @@ impl<'a> Fleet<'a> {
         Fleet { tugs, later }
     }
 
-    /// The fleet of a rule; a rule on two ships has no tugs.
-    pub fn of(rule: &'a Rule) -> Fleet<'a>
-        ensures { (s : ℕ) → fleet_in result.tugs result.later s ≡ fleet_of rule.now s }
-    {
-        match rule {
-            Rule::Pair { .. } | Rule::After { .. } => Fleet::new(0, &[]),
-            Rule::Tugs { fleet, later, .. } => Fleet::new(*fleet, &later.items),
-        }
-    }
-
     /// The tugs in a slot. From then on it knows those of this slot and of later ones. A loop over
     /// ascending slots looks at each step once.
     pub fn tugs_in(&mut self, slot: Slot) -> u32
@@ -64,8 +54,8 @@ impl<'a> Fleet<'a> {
 }
 
 /// The tugs that a rule's fleet has in a slot; none for a rule on two ships.
-pub fn fleet_of(rule: &Rule, slot: Slot) -> u32
-    ensures value { result ≡ fleet_of rule.now slot }
+pub fn rule_fleet(rule: &Rule, slot: Slot) -> u32
+    ensures value { result ≡ rule_fleet rule.now slot }
 {
     match rule {
         Rule::Pair { .. } | Rule::After { .. } => 0,
@@ -74,8 +64,8 @@ pub fn fleet_of(rule: &Rule, slot: Slot) -> u32
 }
 
 /// The jobs of a rule; a rule on two ships has none.
-pub fn jobs_of(rule: &Rule) -> &[Job]
-    ensures value { result.now ≡ jobs_of rule.now }
+pub fn rule_jobs(rule: &Rule) -> &[Job]
+    ensures value { result.now ≡ rule_jobs rule.now }
 {
     match rule {
         Rule::Pair { .. } | Rule::After { .. } => &[],

@@ -23,7 +23,7 @@ mod walking;
 mod window;
 
 pub use breach::Breach;
-pub use fleets::{Fleet, fleet_of, jobs_of};
+pub use fleets::{Fleet, rule_fleet, rule_jobs};
 pub use goal::{beats, cargo, greatest_sum, greatest_value};
 pub use hw_model_laws::{point_room, rising_best, sound_refutation, whole_walk};
 pub use laws::{each_list_once, no_source_twice, rank_follows_order, restriction_numbers};

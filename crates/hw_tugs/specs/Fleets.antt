@@ -17,6 +17,6 @@ abbrev pub TellsEach : ℕ → ℕ → List Step → Fleets → Type 0
 TellsEach horizon fleet later fleets = (slot : ℕ) → slot < horizon → fleet_at fleets slot ≡ fleet_in fleet later slot
 
 -- these are the fleets of a rule
-pub record Tells (horizon fleet : ℕ) (later : List Step) (fleets : Fleets) : Type 0 where
+pub record TellsFleet (horizon fleet : ℕ) (later : List Step) (fleets : Fleets) : Type 0 where
   pub least : IsLeast fleets
   pub tells : TellsEach horizon fleet later fleets

@@ -31,7 +31,7 @@ jobs_in (Some (Tugs fleet later jobs)) = jobs
 -- the tugs that a rule's fleet has in a slot; a rule on two ships has none
 abbrev pub fleet_by : Option Rule → ℕ → ℕ
 fleet_by None slot = 0
-fleet_by (Some rule) slot = fleets.fleet_of rule slot
+fleet_by (Some rule) slot = fleets.rule_fleet rule slot
 
 -- the tugs that the fleet of a source has in a slot
 abbrev pub fleet_of : Problem → Source → ℕ → ℕ

@@ -8,7 +8,7 @@ ghost use Rattle.hw_model.specs.Rooms.{RoomFits};
 ghost use Rattle.hw_model.specs.Refuting.{IsSourceOf};
 ghost use Rattle.hw_prop.specs.Finds.{Explanation, Finds};
 ghost use Rattle.hw_prop.specs.Ruled.{rule_of};
-ghost use Rattle.hw_tugs.specs.Fleets.{Tells};
+ghost use Rattle.hw_tugs.specs.Fleets.{TellsFleet};
 ghost use Rattle.hw_tugs.specs.Held.{IsForced};
 ghost use Rattle.hw_tugs.specs.Over.{CutsAt};
 
@@ -57,7 +57,7 @@ pub(crate) fn cut_clause(
     requires source_in { IsSourceOf test.now.by.flat.now test.now.by.source }
     requires rule { rule_of test.now.by.flat.now test.now.by.source ≡ Some (Rule.Tugs test.now.rule.fleet test.now.rule.later.now test.now.rule.jobs.now) }
     requires fits { TugsFit test.now.by.flat.now.ships test.now.rule.fleet test.now.rule.later.now test.now.rule.jobs.now }
-    requires fleets { Tells (horizon test.now.by.flat.now) test.now.rule.fleet test.now.rule.later.now test.now.fleets.now }
+    requires fleets { TellsFleet (horizon test.now.by.flat.now) test.now.rule.fleet test.now.rule.later.now test.now.fleets.now }
     requires room { RoomFits test.now.by.flat.now room.now }
     requires cut { CutsAt test.now.fleets.now test.now.rule.jobs.now (horizon test.now.by.flat.now) room.now cut }
     requires ships { ships.now ≡ map (λ job. job.ship) test.now.rule.jobs.now }
@@ -93,7 +93,7 @@ pub(crate) fn tugs_step(
     requires source_in { IsSourceOf test.now.by.flat.now test.now.by.source }
     requires rule { rule_of test.now.by.flat.now test.now.by.source ≡ Some (Rule.Tugs test.now.rule.fleet test.now.rule.later.now test.now.rule.jobs.now) }
     requires fits { TugsFit test.now.by.flat.now.ships test.now.rule.fleet test.now.rule.later.now test.now.rule.jobs.now }
-    requires fleets { Tells (horizon test.now.by.flat.now) test.now.rule.fleet test.now.rule.later.now test.now.fleets.now }
+    requires fleets { TellsFleet (horizon test.now.by.flat.now) test.now.rule.fleet test.now.rule.later.now test.now.fleets.now }
     requires room { RoomFits test.now.by.flat.now room.now }
     requires each_slot { length load.now ≡ horizon test.now.by.flat.now }
     requires small { (slot : ℕ) → slot < length load.now → slice_index load.now slot ≤ 10_000 }

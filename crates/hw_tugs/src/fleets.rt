@@ -3,7 +3,7 @@
 //! Wrong body that is refused: `one_tug_over_the_fleet_is_quiet`.
 ghost use Rattle.std.specs.Prelude.{◌≡◌, ℕ, ◌<◌, ◌≤◌, IfOk, nat_lt, slice_index, slice_index_or};
 ghost use Rattle.hw_model.specs.Rules.{fleet_in};
-ghost use Rattle.hw_tugs.specs.Fleets.{fleet_at, IsLeast, Tells};
+ghost use Rattle.hw_tugs.specs.Fleets.{fleet_at, IsLeast, TellsFleet};
 
 use hw_model::{NoMemory, Step};
 use hw_rules::Fleet;
@@ -51,7 +51,7 @@ impl Fleets {
         later: &[Step],
         horizon: u32,
     ) -> Result<Fleets, NoMemory>
-        ensures told { IfOk result (Tells horizon fleet later.now) }
+        ensures told { IfOk result (TellsFleet horizon fleet later.now) }
     {
         let hours = if later.is_empty() {
             Vec::new(alloc)
