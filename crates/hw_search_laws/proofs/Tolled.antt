@@ -150,20 +150,20 @@ place_in f place P h = inside f.rules place h
     inside (rule ∷ rules) (suc n) h = omega (arith, inside rules n h)
 
 -- a rule has at most 40 jobs
-few_weights : (ships : ℕ) (weights : List ℕ) (most : ℕ) (o : Option Rule) → IfSome o (RuleFits ships) → IsSomeAnd o (WeighsUpTo weights most) → length weights ≤ 40
-few_weights ships weights most None fits h = absurd h
-few_weights ships weights most (Some (rules.Pair v w holes)) fits h = absurd h
-few_weights ships weights most (Some (rules.After v w gap)) fits h = absurd h
-few_weights ships weights most (Some (rules.Tugs fleet later jobs)) fits h = omega (arith, h.0, fits.few_jobs)
+few_weights : (ships slot : ℕ) (weights : List ℕ) (most : ℕ) (o : Option Rule) → IfSome o (RuleFits ships) → IsSomeAnd o (WeighsUpTo slot weights most) → length weights ≤ 40
+few_weights ships slot weights most None fits h = absurd h
+few_weights ships slot weights most (Some (rules.Pair v w holes)) fits h = absurd h
+few_weights ships slot weights most (Some (rules.After v w gap)) fits h = absurd h
+few_weights ships slot weights most (Some (rules.Tugs fleet later jobs)) fits h = omega (arith, h.0, fits.few_jobs)
 
 toll_fits : (f : Problem) (toll : Toll) → IsFlat f → IsToll f toll → LineFits f (lines.Toll toll)
 toll_fits f (tolls.Narrows blocks) flat is = record { some_block = is.some_block; few_blocks = is.few_blocks; each_block = is.each_block; ascend = ships_ascend f blocks is.apart }
 toll_fits f (tolls.Tugs n slot weights most) flat is = record {
   past_ships = is.past_ships;
-  restriction_in = omega (arith, is.past_ships, place_in f (n - f.ships) (WeighsUpTo weights most) is.weighed);
+  restriction_in = omega (arith, is.past_ships, place_in f (n - f.ships) (WeighsUpTo slot weights most) is.weighed);
   slot_in = omega (arith, is.slot_in, horizon_le f);
   small_most = is.small_most;
-  few_weights = few_weights f.ships weights most (rule_at f n) (at_place (RuleFits f.ships) f.rules (n - f.ships) flat.each_rule) is.weighed;
+  few_weights = few_weights f.ships slot weights most (rule_at f n) (at_place (RuleFits f.ships) f.rules (n - f.ships) flat.each_rule) is.weighed;
   small_weights = is.small_weights;
 }
 
