@@ -2,6 +2,7 @@ pub mod Same
 pub mod Refusals
 pub mod ShipLines
 pub mod RuleLines
+pub mod Closings
 pub mod Bodies
 pub mod Texts
 pub mod GoodBodies
@@ -15,3 +16,4 @@ pub mod Clauses
 pub mod Rooms
 pub mod Setting
 pub mod Rules
+pub mod Plain

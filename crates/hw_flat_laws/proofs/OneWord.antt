@@ -1,28 +1,43 @@
 -- At a line one word is wanted.
-use Rattle.std.proofs.Common.{◌≡◌, ℕ, Bool, Some, None, refl, sym, ap, ◌∙◌, arith}
+use Rattle.std.proofs.Common.{◌≡◌, ℕ, Bool, inl, inr, Some, None, refl, sym, ap, ◌∙◌, arith}
 use Rattle.hw_flat.specs.declared.fault.FlatWord.{FlatWord}
 use Rattle.hw_flat.specs.declared.fault.FlatWord.TheVariants as words
 use Rattle.hw_flat.specs.TextForms.{rule_form}
-use Rattle.hw_flat_laws.specs.FirstLines.{numbered_line}
-use Rattle.hw_flat_laws.specs.Wanted.{SaysSize, WantsValues, WantsRule, WantsEnd, WantsNoMore, IsWanted}
+use Rattle.hw_flat_laws.specs.Wanted.{SaysSize, rule_at, WantsValues, WantsRule, WantsEnd, WantsNoMore, IsWanted}
 use Rattle.hw_flat_laws.proofs.Same.{Parts, has}
+use Rattle.hw_flat_laws.proofs.Closings.{end_no_rule}
 
-same_ships : (parts : Parts) (s t : Bool) (ships others slots more : ℕ) → SaysSize parts s ships slots → SaysSize parts t others more → ships ≡ others
+same_ships : (parts : Parts) (s t : Bool × Bool) (ships others slots more : ℕ) → SaysSize parts s ships slots → SaysSize parts t others more → ships ≡ others
 same_ships parts s t ships others slots more b c = let e : (ships, slots) ≡ (others, more) = cc in ap (λ (p : ℕ × ℕ). p.0) e
 
 values_rule : (parts : Parts) (number : ℕ) → WantsValues parts number → WantsRule parts number → ⊥
-values_rule parts number a b = let same = same_ships parts a.stay b.stay a.ships b.ships a.slots b.slots a.said b.said in omega (arith, same, a.before_rules, b.past_ships)
+values_rule parts number a b = let same = same_ships parts a.version b.version a.ships b.ships a.slots b.slots a.said b.said in omega (arith, same, a.before_rules, b.past_ships)
 
 values_end : (parts : Parts) (number : ℕ) → WantsValues parts number → WantsEnd parts number → ⊥
-values_end parts number a b = let same = same_ships parts a.stay b.stay a.ships b.ships a.slots b.slots a.said b.said in omega (arith, same, a.before_rules, b.past_rules)
+values_end parts number a b = let same = same_ships parts a.version b.version a.ships b.ships a.slots b.slots a.said b.said in omega (arith, same, a.before_rules, b.past_rules)
 
 values_more : (parts : Parts) (number : ℕ) → WantsValues parts number → WantsNoMore parts number → ⊥
-values_more parts number a b = let same = same_ships parts a.stay b.stay a.ships b.ships a.slots b.slots a.said b.said in omega (arith, same, a.before_rules, b.past_ships)
+values_more parts number a b = let same = same_ships parts a.version b.version a.ships b.ships a.slots b.slots a.said b.said in omega (arith, same, a.before_rules, b.past_ships)
+
+-- the first two lines say one thing
+pub same_said : (parts : Parts) (s t : Bool × Bool) (ships others slots more : ℕ) → SaysSize parts s ships slots → SaysSize parts t others more → (s ≡ t) × (ships ≡ others) × (slots ≡ more)
+same_said parts s t ships others slots more b c =
+    let said : Some s ≡ Some t = sym b.header ∙ c.header in
+    let v : s ≡ t = inner s t said in
+    let e : (ships, slots) ≡ (others, more) = cc in
+    (v, ap (λ (p : ℕ × ℕ). p.0) e, ap (λ (p : ℕ × ℕ). p.1) e)
+  where
+    inner : (v w : Bool × Bool) → Some v ≡ Some w → v ≡ w
+    inner v w k = cc
 
 rule_end : (parts : Parts) (number : ℕ) → WantsRule parts number → WantsEnd parts number → ⊥
 rule_end parts number a b =
-    let same = same_ships parts a.stay b.stay a.ships b.ships a.slots b.slots a.said b.said in
-    let both : None ≡ Some b.rule = sym a.wrong ∙ ap (λ n. has (rule_form n) (numbered_line parts number)) same ∙ b.one_more in
+    let same = same_said parts a.version b.version a.ships b.ships a.slots b.slots a.said b.said in
+    let none : rule_at parts a.version a.ships a.slots number ≡ None = elim a.wrong [
+      | inl n ↦ n.wrong
+      | inr n ↦ ap (has (rule_form a.version.1 a.ships a.slots)) n.end ∙ end_no_rule a.version.1 a.ships a.slots
+    ] in
+    let both : None ≡ Some b.rule = sym none ∙ (rw (same.0, same.1, same.2) refl) ∙ b.one_more in
     cc
 
 pub one_word : (parts : Parts) (number : ℕ) (word other : FlatWord) → IsWanted parts number word → IsWanted parts number other → word ≡ other

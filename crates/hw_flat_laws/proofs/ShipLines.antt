@@ -1,11 +1,13 @@
 -- The lines of the ships' values, where one is bad and where none is.
-use Rattle.std.proofs.Common.{◌≡◌, ◌≢◌, ℕ, zero, suc, ◌+◌, ◌*◌, ◌<◌, ◌≤◌, Bool, List, [], ◌∷◌, ◌++◌, map, length, Option, Some, None, Result, Ok, Err, All, refl, sym, ap, ◌∙◌, subst, arith, codes, unwrap_or}
+use Rattle.std.proofs.Common.{◌≡◌, ◌≢◌, ℕ, zero, suc, ◌+◌, ◌*◌, ◌<◌, ◌≤◌, Bool, true, false, List, [], ◌∷◌, ◌++◌, map, length, Option, Some, None, Result, Ok, Err, All, refl, sym, ap, ◌∙◌, subst, arith, codes, unwrap_or}
 use Rattle.std.proofs.lemmas.List.Elements.{All-nil, All-cons}
 use Rattle.hw_lemmas.specs.Operators.{◌>>=◌}
+use Rattle.hw_model.specs.declared.rule.Rule.{Rule}
+use Rattle.hw_model.specs.declared.rule.Rule.TheVariants.{Tugs}
 use Rattle.hw_flat.specs.declared.fault.FlatWord.TheVariants as words
 use Rattle.hw_flat.specs.Text.{Fault, row_at, rows_at}
 use Rattle.hw_flat.specs.TextForms.{row_form}
-use Rattle.hw_flat.specs.TextWritten.{row_text, rows_in}
+use Rattle.hw_flat.specs.TextWritten.{row_text, rule_text, rows_in}
 use Rattle.hw_flat.proofs.TextRows.{width, last_in, RowsFit, rows_read}
 use Rattle.hw_flat.proofs.TextBack.{rows_back}
 use Rattle.hw_flat_laws.specs.FirstLines.{later_line}
@@ -48,70 +50,86 @@ nones_nothing zero i = refl
 nones_nothing (suc n) zero = refl
 nones_nothing (suc n) (suc i) = nones_nothing n i
 
-abbrev pub Ended : Row × Parts → Type 0
-Ended x = x.1 ≡ codes "end" ∷ [] ∷ []
+-- the least that may follow the ships' lines: `end`, and before it a rule that needs hours where fleets have them
+abbrev pub hour_rule : Rule
+hour_rule = Tugs 1_001 [] (record { ship = 0; tugs = 1; hold = 1 } ∷ [])
+
+abbrev pub hour_rules : Bool → List Rule
+hour_rules false = []
+hour_rules true = hour_rule ∷ []
+
+abbrev pub ending : List Rule → Parts
+ending rules = map rule_text rules ++ codes "end" ∷ [] ∷ []
+
+pub full_ending : (rules : List Rule) → Full (ending rules)
+full_ending rules = full_after (map rule_text rules) (codes "end" ∷ [] ∷ []) (codes "end", [] ∷ [], refl)
+
+abbrev pub Ended : Bool → Row × Parts → Type 0
+Ended hours x = x.1 ≡ ending (hour_rules hours)
 
 -- lines that read
-pub record Filled (stay : Bool) (slots number ships : ℕ) : Type 0 where
+pub record Filled (stay hours : Bool) (slots number ships : ℕ) : Type 0 where
   pub first : List ℕ
   pub more : Parts
   pub value : Row × Parts
-  pub ended : Ended value
+  pub ended : Ended hours value
   pub reads : rows_at stay slots number ships (first ∷ more) ≡ Ok value
 
-pub filled : (stay : Bool) (slots number ships : ℕ) → Filled stay slots number ships
-filled stay slots number ships =
+pub filled : (stay hours : Bool) (slots number ships : ℕ) → Filled stay hours slots number ships
+filled stay hours slots number ships =
+    let last : Parts = ending (hour_rules hours) in
+    let last_full : Full last = full_ending (hour_rules hours) in
     let values : Row = nones (ships * width stay slots) in
     let fits : RowsFit stay slots ships values = record { size = nones_count (ships * width stay slots); small = nones_small (ships * width stay slots); last = λ ship lt t. nones_nothing (ships * width stay slots) (ship * width stay slots + slots) } in
     let lines : Parts = map (row_text slots) (rows_in ships (width stay slots) values) in
-    let full : Full (lines ++ codes "end" ∷ [] ∷ []) = full_after lines (codes "end" ∷ [] ∷ []) (codes "end", [] ∷ [], refl) in
+    let full : Full (lines ++ last) = full_after lines last last_full in
     record {
       first = full.0;
       more = full.1;
-      value = (values, codes "end" ∷ [] ∷ []);
+      value = (values, last);
       ended = refl;
-      reads = ap (rows_at stay slots number ships) (sym full.2) ∙ rows_back stay slots number ships values (codes "end" ∷ [] ∷ []) (codes "end", [] ∷ [], refl) fits;
+      reads = ap (rows_at stay slots number ships) (sym full.2) ∙ rows_back stay slots number ships values last last_full fits;
     }
 
 -- ---- one of the lines is bad
 
-pub record ShipsRefused (stay : Bool) (slots number ships : ℕ) (parts : Parts) (e : Fault) : Type 0 where
+pub record ShipsRefused (stay hours : Bool) (slots number ships : ℕ) (parts : Parts) (e : Fault) : Type 0 where
   pub count : ℕ
   pub place : e.number ≡ number + count
   pub word : e.word ≡ words.Values
   pub below : count < ships
   pub wrong : has (row_form stay slots) (later_line count parts) ≡ None
-  pub refused : Refused Ended (rows_at stay slots number ships) parts e count
+  pub refused : Refused (Ended hours) (rows_at stay slots number ships) parts e count
 
-pub ships_refused : (stay : Bool) (slots number ships : ℕ) (parts : Parts) (e : Fault) → 1 ≤ length parts → rows_at stay slots number ships parts ≡ Err e → ShipsRefused stay slots number ships parts e
+pub ships_refused : (stay hours : Bool) (slots number ships : ℕ) (parts : Parts) (e : Fault) → 1 ≤ length parts → rows_at stay slots number ships parts ≡ Err e → ShipsRefused stay hours slots number ships parts e
 unfolding rows_at row_at
-ships_refused stay slots number zero parts e some h = absurd (not_both (rows_at stay slots number zero parts) ([], parts) e refl h)
-ships_refused stay slots number (suc ships) [] e some h = absurd (omega (arith, some))
-ships_refused stay slots number (suc ships) (line ∷ []) e some h =
-    let f = filled stay slots number (suc ships) in
+ships_refused stay hours slots number zero parts e some h = absurd (not_both (rows_at stay slots number zero parts) ([], parts) e refl h)
+ships_refused stay hours slots number (suc ships) [] e some h = absurd (omega (arith, some))
+ships_refused stay hours slots number (suc ships) (line ∷ []) e some h =
+    let f = filled stay hours slots number (suc ships) in
     let d : Fault = record { number = number; word = words.Values } in
-    subst (ShipsRefused stay slots number (suc ships) (line ∷ [])) (is_err (rows_at stay slots number (suc ships) (line ∷ [])) d e refl h)
-    (record { count = 0; place = omega arith; word = refl; below = omega arith; wrong = refl; refused = refused_short Ended (rows_at stay slots number (suc ships)) line d f.first f.more f.value f.ended f.reads (λ y. refl) })
-ships_refused stay slots number (suc ships) (line ∷ next ∷ parts) e some h =
-    elim (row_form stay slots line) as (λ o. row_form stay slots line ≡ o → ShipsRefused stay slots number (suc ships) (line ∷ next ∷ parts) e) [
+    subst (ShipsRefused stay hours slots number (suc ships) (line ∷ [])) (is_err (rows_at stay slots number (suc ships) (line ∷ [])) d e refl h)
+    (record { count = 0; place = omega arith; word = refl; below = omega arith; wrong = refl; refused = refused_short (Ended hours) (rows_at stay slots number (suc ships)) line d f.first f.more f.value f.ended f.reads (λ y. refl) })
+ships_refused stay hours slots number (suc ships) (line ∷ next ∷ parts) e some h =
+    elim (row_form stay slots line) as (λ o. row_form stay slots line ≡ o → ShipsRefused stay hours slots number (suc ships) (line ∷ next ∷ parts) e) [
       | None ↦ λ form.
-          let f = filled stay slots number (suc ships) in
+          let f = filled stay hours slots number (suc ships) in
           let d : Fault = record { number = number; word = words.Values } in
           let bad : (y : List ℕ) (ys : Parts) → rows_at stay slots number (suc ships) (line ∷ y ∷ ys) ≡ Err d = λ y ys. rw form refl in
-          subst (ShipsRefused stay slots number (suc ships) (line ∷ next ∷ parts)) (is_err (rows_at stay slots number (suc ships) (line ∷ next ∷ parts)) d e (bad next parts) h)
-          (record { count = 0; place = omega arith; word = refl; below = omega arith; wrong = form; refused = refused_line Ended (rows_at stay slots number (suc ships)) line next parts d f.first f.more f.value f.ended f.reads bad })
+          subst (ShipsRefused stay hours slots number (suc ships) (line ∷ next ∷ parts)) (is_err (rows_at stay slots number (suc ships) (line ∷ next ∷ parts)) d e (bad next parts) h)
+          (record { count = 0; place = omega arith; word = refl; below = omega arith; wrong = form; refused = refused_line (Ended hours) (rows_at stay slots number (suc ships)) line next parts d f.first f.more f.value f.ended f.reads bad })
       | Some row ↦ λ form.
           let step : (others : Parts) → Full others → rows_at stay slots number (suc ships) (line ∷ others) ≡ (rows_at stay slots (number + 1) ships others >>= λ more. Ok (row ++ more.0, more.1)) = λ others full. rw (full.2, form) refl in
           let later : rows_at stay slots (number + 1) ships (next ∷ parts) ≡ Err e = before_done (rows_at stay slots (number + 1) ships (next ∷ parts)) (λ more. (row ++ more.0, more.1)) e (sym (step (next ∷ parts) (next, parts, refl)) ∙ h) in
-          let r = ships_refused stay slots (number + 1) ships (next ∷ parts) e (omega arith) later in
+          let r = ships_refused stay hours slots (number + 1) ships (next ∷ parts) e (omega arith) later in
           record {
             count = suc r.count;
             place = omega (arith, r.place);
             word = r.word;
             below = omega (arith, r.below);
             wrong = r.wrong;
-            refused = past_line_form Ended (λ others. rows_at stay slots (number + 1) ships others >>= λ more. Ok (row ++ more.0, more.1)) (rows_at stay slots number (suc ships)) line (next ∷ parts) e r.count step
-                (followed Ended Ended (rows_at stay slots (number + 1) ships) (λ more. Ok (row ++ more.0, more.1)) (next ∷ parts) e r.count (λ value done. ((row ++ value.0, value.1), done, refl)) r.refused);
+            refused = past_line_form (Ended hours) (λ others. rows_at stay slots (number + 1) ships others >>= λ more. Ok (row ++ more.0, more.1)) (rows_at stay slots number (suc ships)) line (next ∷ parts) e r.count step
+                (followed (Ended hours) (Ended hours) (rows_at stay slots (number + 1) ships) (λ more. Ok (row ++ more.0, more.1)) (next ∷ parts) e r.count (λ value done. ((row ++ value.0, value.1), done, refl)) r.refused);
           }
     ] refl
 

@@ -18,5 +18,11 @@ rows = record {
   three_holes_written = refl;
   stays_not_read = refl;
   stays_not_written = refl;
+  by_hours_read = refl;
+  by_hours_written = refl;
+  great_fleet_read = refl;
+  great_fleet_written = refl;
+  repeated_read = refl;
+  repeated_written = refl;
   demonstration_written = refl;
 }

@@ -1,5 +1,5 @@
 -- A text that is refused.
-use Rattle.std.proofs.Common.{◌≡◌, ℕ, suc, ◌+◌, ◌-◌, ◌≤◌, Bool, List, [], ◌∷◌, length, Result, false, ◌==◌, Some, None, Ok, Err, refl, sym, ◌∙◌, subst, arith, codes}
+use Rattle.std.proofs.Common.{◌≡◌, ℕ, suc, ◌+◌, ◌-◌, ◌≤◌, Bool, ◌⊎◌, inl, inr, List, [], ◌∷◌, length, Result, false, ◌==◌, Some, None, Ok, Err, refl, sym, ap, ◌∙◌, subst, arith, codes}
 use Rattle.hw_lemmas.specs.Operators.{◌>>=◌}
 use Rattle.hw_model.specs.Problem.{Problem}
 use Rattle.hw_text.specs.Parts.{parts_of}
@@ -11,58 +11,90 @@ use Rattle.hw_flat.specs.TextWritten.{problem_text}
 use Rattle.hw_flat.proofs.TextRows.{text_read}
 use Rattle.hw_flat.proofs.TextBack.{text_reads_back}
 use Rattle.hw_flat_laws.specs.FirstLines.{SameLines}
-use Rattle.hw_flat_laws.specs.Wanted.{IsWanted}
+use Rattle.hw_flat_laws.specs.Wanted.{IsWanted, OutOfRules}
 use Rattle.hw_flat_laws.specs.Laws.{TextGoesOn, FirstBadLine}
 use Rattle.hw_flat_laws.proofs.Same.{Parts, Full, Same, same_from, same_takes, full_some}
-use Rattle.hw_flat_laws.proofs.Refusals.{Refused, past_line_form, refused_line, refused_short}
+use Rattle.hw_flat_laws.proofs.Refusals.{Mend, Dead, mend_past_line, dead_past_line, dead_line, dead_short}
+use Rattle.hw_flat_laws.proofs.ShipLines.{hour_rules}
 use Rattle.hw_flat_laws.proofs.ShipLines.{is_err}
-use Rattle.hw_flat_laws.proofs.Bodies.{AnyProblem, body_at, body_mended, body_refused, text_body}
+use Rattle.hw_flat_laws.proofs.Bodies.{body_at, body_mended, body_refused, text_body}
+use Rattle.hw_flat_laws.proofs.Closings.{AnyProblem, Small}
 
 -- the text after its first line
-abbrev second_at : Bool → Parts → Result Problem Fault
-second_at stay parts = line_at 2 words.Size parts >>= λ line. formed 2 words.Size (size_form line.0) >>= λ size. body_at stay size line.1
+abbrev second_at : Bool × Bool → Parts → Result Problem Fault
+second_at version parts = line_at 2 words.Size parts >>= λ line. formed 2 words.Size (size_form line.0) >>= λ size. body_at version size line.1
 
-record SecondRefused (header : List ℕ) (stay : Bool) (parts : Parts) (e : Fault) : Type 0 where
+-- a text that reads begins with these lines, or with all but the last of them
+record GoesOn (read : Parts → Result Problem Fault) (parts : Parts) (count : ℕ) (Out : Type 0) : Type 0 where
+  kept : ℕ
+  mend : Mend AnyProblem read parts kept
+  kept_is : (kept ≡ count) ⊎ ((suc kept ≡ count) × Out)
+
+all_kept : (read : Parts → Result Problem Fault) (parts : Parts) (count : ℕ) (Out : Type 0) → Mend AnyProblem read parts count → GoesOn read parts count Out
+all_kept read parts count Out m = record { kept = count; mend = m; kept_is = inl refl }
+
+past_line : (read whole : Parts → Result Problem Fault) (line : List ℕ) (parts : Parts) (count : ℕ) (Out : Type 0) → ((others : Parts) → Full others → whole (line ∷ others) ≡ read others) → GoesOn read parts count Out → GoesOn whole (line ∷ parts) (suc count) Out
+past_line read whole line parts count Out step g = record {
+  kept = suc g.kept;
+  mend = mend_past_line AnyProblem read whole line parts g.kept step g.mend;
+  kept_is = elim g.kept_is [
+    | inl same ↦ inl (ap suc same)
+    | inr s ↦ inr (ap suc s.0, s.1)
+  ];
+}
+
+record SecondRefused (header : List ℕ) (version : Bool × Bool) (parts : Parts) (e : Fault) : Type 0 where
   count : ℕ
   place : e.number ≡ 2 + count
   wanted : IsWanted (header ∷ parts) e.number e.word
-  refused : Refused AnyProblem (second_at stay) parts e count
+  begins : GoesOn (second_at version) parts count (OutOfRules (header ∷ parts) e.number)
+  dead : Dead (second_at version) parts e count
 
 -- a size line and the rest of a text that reads
-one_ship_reads : (stay : Bool) → second_at stay (codes "size 1 1" ∷ (body_mended stay (1, 1)).first ∷ (body_mended stay (1, 1)).more) ≡ Ok (problem_of stay (1, 1) (body_mended stay (1, 1)).values [])
-one_ship_reads stay = (body_mended stay (1, 1)).reads
+one_by_one : Small (1, 1)
+one_by_one = record { some_ship = omega arith; few_ships = omega arith; some_slot = omega arith; few_slots = omega arith }
 
-second_refused : (header : List ℕ) (stay : Bool) (parts : Parts) (e : Fault) → header_form header ≡ Some stay → 1 ≤ length parts → second_at stay parts ≡ Err e → SecondRefused header stay parts e
-second_refused header stay [] e a some h = absurd (omega (arith, some))
-second_refused header stay (line ∷ []) e a some h =
-    let m = body_mended stay (1, 1) in
+one_ship : (version : Bool × Bool) (parts : Parts) → Full parts → Mend AnyProblem (second_at version) parts 0
+one_ship version [] full = absurd (nothing full.2)
+  where
+    nothing : [] ≡ full.0 ∷ full.1 → ⊥
+    nothing e = absurd cc
+one_ship version (line ∷ parts) full =
+    let m = body_mended version (1, 1) one_by_one in
+    record { mended = codes "size 1 1" ∷ m.first ∷ m.more; value = problem_of version.0 (1, 1) m.values (hour_rules version.1); done = tt; reads = m.reads; same = tt }
+
+second_refused : (header : List ℕ) (version : Bool × Bool) (parts : Parts) (e : Fault) → header_form header ≡ Some version → 1 ≤ length parts → second_at version parts ≡ Err e → SecondRefused header version parts e
+second_refused header version [] e a some h = absurd (omega (arith, some))
+second_refused header version (line ∷ []) e a some h =
     let d : Fault = record { number = 2; word = words.Size } in
-    subst (SecondRefused header stay (line ∷ [])) (is_err (second_at stay (line ∷ [])) d e refl h) (record {
+    subst (SecondRefused header version (line ∷ [])) (is_err (second_at version (line ∷ [])) d e refl h) (record {
       count = 0;
       place = omega arith;
       wanted = record { place = refl; wrong = refl };
-      refused = refused_short AnyProblem (second_at stay) line d (codes "size 1 1") (m.first ∷ m.more) (problem_of stay (1, 1) m.values []) tt (one_ship_reads stay) (λ y. refl);
+      begins = all_kept (second_at version) (line ∷ []) 0 (OutOfRules (header ∷ line ∷ []) 2) (one_ship version (line ∷ []) (line, [], refl));
+      dead = dead_short (second_at version) line d (λ y. refl);
     })
-second_refused header stay (line ∷ next ∷ parts) e a some h =
-    elim (size_form line) as (λ o. size_form line ≡ o → SecondRefused header stay (line ∷ next ∷ parts) e) [
+second_refused header version (line ∷ next ∷ parts) e a some h =
+    elim (size_form line) as (λ o. size_form line ≡ o → SecondRefused header version (line ∷ next ∷ parts) e) [
       | None ↦ λ form.
-          let m = body_mended stay (1, 1) in
           let d : Fault = record { number = 2; word = words.Size } in
-          let bad : (y : List ℕ) (ys : Parts) → second_at stay (line ∷ y ∷ ys) ≡ Err d = λ y ys. rw form refl in
-          subst (SecondRefused header stay (line ∷ next ∷ parts)) (is_err (second_at stay (line ∷ next ∷ parts)) d e (bad next parts) h) (record {
+          let bad : (y : List ℕ) (ys : Parts) → second_at version (line ∷ y ∷ ys) ≡ Err d = λ y ys. rw form refl in
+          subst (SecondRefused header version (line ∷ next ∷ parts)) (is_err (second_at version (line ∷ next ∷ parts)) d e (bad next parts) h) (record {
             count = 0;
             place = omega arith;
             wanted = record { place = refl; wrong = form };
-            refused = refused_line AnyProblem (second_at stay) line next parts d (codes "size 1 1") (m.first ∷ m.more) (problem_of stay (1, 1) m.values []) tt (one_ship_reads stay) bad;
+            begins = all_kept (second_at version) (line ∷ next ∷ parts) 0 (OutOfRules (header ∷ line ∷ next ∷ parts) 2) (one_ship version (line ∷ next ∷ parts) (line, next ∷ parts, refl));
+            dead = dead_line (second_at version) line next parts d bad;
           })
       | Some size ↦ λ form.
-          let step : (others : Parts) → Full others → second_at stay (line ∷ others) ≡ body_at stay size others = λ others full. rw (full.2, form) refl in
-          let r = body_refused header line stay size (next ∷ parts) e a form (next, parts, refl) (sym (step (next ∷ parts) (next, parts, refl)) ∙ h) in
+          let step : (others : Parts) → Full others → second_at version (line ∷ others) ≡ body_at version size others = λ others full. rw (full.2, form) refl in
+          let r = body_refused header line version size (next ∷ parts) e a form (next, parts, refl) (sym (step (next ∷ parts) (next, parts, refl)) ∙ h) in
           record {
             count = suc r.count;
             place = omega (arith, r.place);
             wanted = r.wanted;
-            refused = past_line_form AnyProblem (body_at stay size) (second_at stay) line (next ∷ parts) e r.count step r.refused;
+            begins = past_line (body_at version size) (second_at version) line (next ∷ parts) r.count (OutOfRules (header ∷ line ∷ next ∷ parts) e.number) step (record { kept = r.begins.kept; mend = r.begins.mend; kept_is = r.begins.kept_is });
+            dead = dead_past_line (body_at version size) (second_at version) line (next ∷ parts) e r.count step r.dead;
           }
     ] refl
 
@@ -70,46 +102,58 @@ record TextRefused (parts : Parts) (e : Fault) : Type 0 where
   count : ℕ
   place : e.number ≡ suc count
   wanted : IsWanted parts e.number e.word
-  refused : Refused AnyProblem problem_of_lines parts e count
+  begins : GoesOn problem_of_lines parts count (OutOfRules parts e.number)
+  dead : Dead problem_of_lines parts e count
 
 -- the first line of a text and a problem of it
-flat_reads : problem_of_lines (codes "flat 1" ∷ codes "size 1 1" ∷ (body_mended false (1, 1)).first ∷ (body_mended false (1, 1)).more) ≡ Ok (problem_of false (1, 1) (body_mended false (1, 1)).values [])
-flat_reads =
-    let m = body_mended false (1, 1) in
-    text_body (codes "flat 1") (codes "size 1 1") (m.first ∷ m.more) false (1, 1) refl refl (m.first, m.more, refl) ∙ m.reads
+flat_reads : (parts : Parts) → Full parts → Mend AnyProblem problem_of_lines parts 0
+flat_reads [] full = absurd (nothing full.2)
+  where
+    nothing : [] ≡ full.0 ∷ full.1 → ⊥
+    nothing e = absurd cc
+flat_reads (line ∷ parts) full =
+    let m = body_mended (false, false) (1, 1) one_by_one in
+    record {
+      mended = codes "flat 1" ∷ codes "size 1 1" ∷ m.first ∷ m.more;
+      value = problem_of false (1, 1) m.values [];
+      done = tt;
+      reads = text_body (codes "flat 1") (codes "size 1 1") (m.first ∷ m.more) (false, false) (1, 1) refl refl (m.first, m.more, refl) ∙ m.reads;
+      same = tt;
+    }
 
 text_refused : (parts : Parts) (e : Fault) → 1 ≤ length parts → problem_of_lines parts ≡ Err e → TextRefused parts e
 unfolding problem_of_lines
 text_refused [] e some h = absurd (omega (arith, some))
 text_refused (line ∷ []) e some h =
-    let m = body_mended false (1, 1) in
     let d : Fault = record { number = 1; word = words.Header } in
     subst (TextRefused (line ∷ [])) (is_err (problem_of_lines (line ∷ [])) d e refl h) (record {
       count = 0;
       place = omega arith;
       wanted = record { place = refl; wrong = refl };
-      refused = refused_short AnyProblem problem_of_lines line d (codes "flat 1") (codes "size 1 1" ∷ m.first ∷ m.more) (problem_of false (1, 1) m.values []) tt flat_reads (λ y. refl);
+      begins = all_kept problem_of_lines (line ∷ []) 0 (OutOfRules (line ∷ []) 1) (flat_reads (line ∷ []) (line, [], refl));
+      dead = dead_short problem_of_lines line d (λ y. refl);
     })
 text_refused (line ∷ next ∷ parts) e some h =
     elim (header_form line) as (λ o. header_form line ≡ o → TextRefused (line ∷ next ∷ parts) e) [
       | None ↦ λ form.
-          let m = body_mended false (1, 1) in
           let d : Fault = record { number = 1; word = words.Header } in
           let bad : (y : List ℕ) (ys : Parts) → problem_of_lines (line ∷ y ∷ ys) ≡ Err d = λ y ys. rw form refl in
           subst (TextRefused (line ∷ next ∷ parts)) (is_err (problem_of_lines (line ∷ next ∷ parts)) d e (bad next parts) h) (record {
             count = 0;
             place = omega arith;
             wanted = record { place = refl; wrong = form };
-            refused = refused_line AnyProblem problem_of_lines line next parts d (codes "flat 1") (codes "size 1 1" ∷ m.first ∷ m.more) (problem_of false (1, 1) m.values []) tt flat_reads bad;
+            begins = all_kept problem_of_lines (line ∷ next ∷ parts) 0 (OutOfRules (line ∷ next ∷ parts) 1) (flat_reads (line ∷ next ∷ parts) (line, next ∷ parts, refl));
+            dead = dead_line problem_of_lines line next parts d bad;
           })
-      | Some stay ↦ λ form.
-          let step : (others : Parts) → Full others → problem_of_lines (line ∷ others) ≡ second_at stay others = λ others full. rw (full.2, form) refl in
-          let r = second_refused line stay (next ∷ parts) e form (omega arith) (sym (step (next ∷ parts) (next, parts, refl)) ∙ h) in
+      | Some version ↦ λ form.
+          let step : (others : Parts) → Full others → problem_of_lines (line ∷ others) ≡ second_at version others = λ others full. rw (full.2, form) refl in
+          let r = second_refused line version (next ∷ parts) e form (omega arith) (sym (step (next ∷ parts) (next, parts, refl)) ∙ h) in
           record {
             count = suc r.count;
             place = omega (arith, r.place);
             wanted = r.wanted;
-            refused = past_line_form AnyProblem (second_at stay) problem_of_lines line (next ∷ parts) e r.count step r.refused;
+            begins = past_line (second_at version) problem_of_lines line (next ∷ parts) r.count (OutOfRules (line ∷ next ∷ parts) e.number) step r.begins;
+            dead = dead_past_line (second_at version) problem_of_lines line (next ∷ parts) e r.count step r.dead;
           }
     ] refl
 
@@ -134,11 +178,15 @@ first_bad_line_law bytes number word h =
     let t = text_refused parts e (full_some parts (has_part (λ b. b == 10) bytes)) h in
     let place : number ≡ suc t.count = t.place in
     let before : t.count ≡ number - 1 = omega (arith, place) in
+    let kept : (count : ℕ) → t.begins.kept ≡ count → TextGoesOn count bytes = λ count n. goes_on bytes count t.begins.mend.mended t.begins.mend.value t.begins.mend.reads (subst (λ k. Same k parts t.begins.mend.mended) n t.begins.mend.same) in
     let as_same : (others : List ℕ) (i j : ℕ) → SameLines i bytes others → i ≡ j → Same j parts (parts_of 10 others) = λ others i j s n. subst (λ k. Same k parts (parts_of 10 others)) n (same_from i parts (parts_of 10 others) s.ended s.others_ended s.same) in
     record {
       counted = omega (arith, place);
-      begins = goes_on bytes (number - 1) t.refused.mended t.refused.value t.refused.reads (subst (λ k. Same k parts t.refused.mended) before t.refused.same);
-      dead_end = λ others s. t.refused.dead (parts_of 10 others) (as_same others number (suc t.count) s place);
-      cut_off = λ apart last others s few. t.refused.cut apart (last ∙ place) (parts_of 10 others) (as_same others (number - 1) t.count s (sym before)) (few ∙ place);
+      begins = elim t.begins.kept_is [
+        | inl same ↦ inl (kept (number - 1) (omega (arith, same, place)))
+        | inr s ↦ inr (s.1, kept (number - 2) (omega (arith, s.0, place)))
+      ];
+      dead_end = λ others s. t.dead.dead (parts_of 10 others) (as_same others number (suc t.count) s place);
+      cut_off = λ apart last others s few. t.dead.cut apart (last ∙ place) (parts_of 10 others) (as_same others (number - 1) t.count s (sym before)) (few ∙ place);
       told = t.wanted;
     }

@@ -1,5 +1,5 @@
 -- What it means that a text is refused at a line.
-use Rattle.std.specs.Prelude.{◌≡◌, ◌≢◌, ℕ, ◌-◌, ◌≤◌, List}
+use Rattle.std.specs.Prelude.{◌≡◌, ◌≢◌, ◌⊎◌, ℕ, ◌-◌, ◌≤◌, List}
 use Rattle.hw_model.specs.Problem.{Problem}
 use Rattle.hw_model.specs.Limits.{IsFlat}
 use Rattle.hw_text.specs.Parts.{parts_of}
@@ -8,7 +8,7 @@ use Rattle.hw_flat.specs.declared.fault.FlatWord.TheVariants as words
 use Rattle.hw_flat.specs.Text.{flat_text, fault}
 use Rattle.hw_flat.specs.TextWritten.{problem_text, IsWritable}
 use Rattle.hw_flat_laws.specs.FirstLines.{part_count, SameLines}
-use Rattle.hw_flat_laws.specs.Wanted.{IsWanted}
+use Rattle.hw_flat_laws.specs.Wanted.{IsWanted, OutOfRules}
 
 -- a problem whose text has these first lines
 pub record TextGoesOn (count : ℕ) (bytes : List ℕ) : Type 0 where
@@ -16,6 +16,11 @@ pub record TextGoesOn (count : ℕ) (bytes : List ℕ) : Type 0 where
   pub limits : IsFlat problem
   pub writable : IsWritable problem
   pub begins : SameLines count bytes (problem_text problem)
+
+-- the lines before begin a text that reads; or they have no room for the rule with hours that is still wanted, and all but the last
+-- of them do
+abbrev pub LinesGoOn : List ℕ → ℕ → Type 0
+LinesGoOn bytes number = TextGoesOn (number - 1) bytes ⊎ (OutOfRules (parts_of 10 bytes) number × TextGoesOn (number - 2) bytes)
 
 -- the text is refused at this line, with this word
 abbrev pub IsRefused : List ℕ → ℕ → FlatWord → Type 0
@@ -25,7 +30,7 @@ IsRefused bytes number word = flat_text bytes ≡ fault number word
 -- tells the word
 pub record BadFlatLine (bytes : List ℕ) (number : ℕ) (word : FlatWord) : Type 0 where
   pub counted : 1 ≤ number
-  pub begins : TextGoesOn (number - 1) bytes
+  pub begins : LinesGoOn bytes number
   pub dead_end : (others : List ℕ) → SameLines number bytes others → IsRefused others number word
   pub cut_off : word ≢ words.Tail → part_count bytes ≡ number → (others : List ℕ) → SameLines (number - 1) bytes others → part_count others ≡ number → IsRefused others number word
   pub told : IsWanted (parts_of 10 bytes) number word

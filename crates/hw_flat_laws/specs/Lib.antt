@@ -9,3 +9,4 @@ pub mod Clauses
 pub mod Rooms
 pub mod Setting
 pub mod Rules
+pub mod Plain

@@ -18,7 +18,7 @@ use Rattle.hw_rules.specs.Sources.{number_of}
 
 -- three ships and six slots, in all of which ships sail
 abbrev pub always_sailing : Problem
-always_sailing = record { ships = 3; slots = 6; stay = false; values = None ∷ Some 0 ∷ None ∷ None ∷ None ∷ None ∷ Some 5 ∷ Some 9 ∷ Some 7 ∷ None ∷ Some 2 ∷ Some 1 ∷ Some 0 ∷ Some 3 ∷ Some 3 ∷ Some 3 ∷ Some 3 ∷ Some 4 ∷ []; rules = Pair 0 1 (record { lo = neg_ℤ (pos 1); hi = pos 1 } ∷ []) ∷ Pair 0 1 (record { lo = pos 0; hi = pos 0 } ∷ record { lo = pos 2; hi = pos 3 } ∷ []) ∷ After 0 1 2 ∷ After 1 0 2 ∷ Tugs 1 (record { ship = 0; tugs = 1; hold = 2 } ∷ record { ship = 1; tugs = 1; hold = 2 } ∷ []) ∷ [] }
+always_sailing = record { ships = 3; slots = 6; stay = false; values = None ∷ Some 0 ∷ None ∷ None ∷ None ∷ None ∷ Some 5 ∷ Some 9 ∷ Some 7 ∷ None ∷ Some 2 ∷ Some 1 ∷ Some 0 ∷ Some 3 ∷ Some 3 ∷ Some 3 ∷ Some 3 ∷ Some 4 ∷ []; rules = Pair 0 1 (record { lo = neg_ℤ (pos 1); hi = pos 1 } ∷ []) ∷ Pair 0 1 (record { lo = pos 0; hi = pos 0 } ∷ record { lo = pos 2; hi = pos 3 } ∷ []) ∷ After 0 1 2 ∷ After 1 0 2 ∷ Tugs 1 [] (record { ship = 0; tugs = 1; hold = 2 } ∷ record { ship = 1; tugs = 1; hold = 2 } ∷ []) ∷ [] }
 
 -- a room of theirs
 abbrev pub sailing_room : RoomModel
@@ -34,7 +34,7 @@ holes_out_of_reach = record { ships = 2; slots = 3; stay = false; values = None 
 
 -- both ships hold two of three tugs for three slots
 abbrev pub tugs : Problem
-tugs = record { ships = 2; slots = 6; stay = false; values = Some 0 ∷ Some 1 ∷ Some 5 ∷ Some 9 ∷ Some 5 ∷ Some 1 ∷ Some 0 ∷ Some 1 ∷ Some 5 ∷ Some 9 ∷ Some 5 ∷ Some 1 ∷ []; rules = Tugs 3 (record { ship = 0; tugs = 2; hold = 3 } ∷ record { ship = 1; tugs = 2; hold = 3 } ∷ []) ∷ [] }
+tugs = record { ships = 2; slots = 6; stay = false; values = Some 0 ∷ Some 1 ∷ Some 5 ∷ Some 9 ∷ Some 5 ∷ Some 1 ∷ Some 0 ∷ Some 1 ∷ Some 5 ∷ Some 9 ∷ Some 5 ∷ Some 1 ∷ []; rules = Tugs 3 [] (record { ship = 0; tugs = 2; hold = 3 } ∷ record { ship = 1; tugs = 2; hold = 3 } ∷ []) ∷ [] }
 
 -- no two slots fit, and the second ship may stay
 abbrev pub second_may_stay : Problem
@@ -50,7 +50,7 @@ both_jobs = record { ship = 0; tugs = 2; hold = 3 } ∷ record { ship = 1; tugs 
 
 -- the rule of the third
 abbrev pub two_jobs : Rule
-two_jobs = Tugs 3 (record { ship = 0; tugs = 2; hold = 3 } ∷ record { ship = 1; tugs = 2; hold = 3 } ∷ [])
+two_jobs = Tugs 3 [] (record { ship = 0; tugs = 2; hold = 3 } ∷ record { ship = 1; tugs = 2; hold = 3 } ∷ [])
 
 -- the rule of the first
 abbrev pub near : Rule

@@ -7,7 +7,9 @@
 mod laws;
 mod worked;
 
-pub use laws::{bad_line_rows, first_bad_line, wanted_refuses};
+pub use laws::{
+    bad_hours_rows, bad_line_rows, few_steps, first_bad_line, plain_tugs_as_before, wanted_refuses,
+};
 pub use worked::{
     clause_rows, number_rows, problem_rows, room_rows, rule_rows, setting_rows, word_rows,
 };
