@@ -15,6 +15,14 @@ const PRECEDENCE: &[u8] = b"flat 1\nsize 2 3\nv 1 2 3\nv 3 2 1\ns 0 1 2\nend\n";
 /// Both ships hold two tugs for three slots.
 const TUGS: &[u8] = b"flat 1\nsize 2 6\nv 0 1 5 9 5 1\nv 0 1 5 9 5 1\nu 3 0:2:3 1:2:3\nend\n";
 
+/// The same ships, with a fourth tug from slot 3 on.
+const ONE_MORE_TUG: &[u8] =
+    b"flat 3\nsize 2 6\nv 0 1 5 9 5 1\nv 0 1 5 9 5 1\nh 3 3:4 0:2:3 1:2:3\nend\n";
+
+/// The same ships, with four tugs and from slot 3 on none.
+const NO_TUG_LATER: &[u8] =
+    b"flat 3\nsize 2 6\nv 0 1 5 9 5 1\nv 0 1 5 9 5 1\nh 4 3:0 0:2:3 1:2:3\nend\n";
+
 const STAYING: &[u8] = b"flat 2\nsize 2 3\nv 10 20 30 n\nv 10 20 30 y\np 0 1 -2:2\nend\n";
 
 const SECOND_STAYS: &[u8] = b"flat 2\nsize 2 3\nv 1 2 3 y\nv 9 9 9 y\ns 0 1 3\nend\n";
@@ -45,7 +53,7 @@ fn is_wanted(walked: &Walked, wanted: Wanted) -> bool {
 }
 
 /// Name, problem, budget, answer.
-const WALKS: [(&str, &[u8], u32, Wanted); 12] = [
+const WALKS: [(&str, &[u8], u32, Wanted); 14] = [
     ("one ship", ONE_SHIP, 3, Wanted::Best(9, &[2])),
     ("values of zero", ZEROS, 3, Wanted::Best(0, &[0])),
     ("two ships apart", APART, 9, Wanted::Best(40, &[0, 2])),
@@ -54,6 +62,8 @@ const WALKS: [(&str, &[u8], u32, Wanted); 12] = [
     ("two lists", APART, 2, Wanted::SpentOnNone),
     ("no slot fits", NONE_FITS, 9, Wanted::NoneLeft),
     ("two pairs of tugs", TUGS, 36, Wanted::Best(9, &[0, 3])),
+    ("one more tug", ONE_MORE_TUG, 36, Wanted::Best(18, &[3, 3])),
+    ("no tug later", NO_TUG_LATER, 36, Wanted::Best(0, &[0, 0])),
     ("a precedence", PRECEDENCE, 9, Wanted::Best(2, &[0, 2])),
     ("passing ships", PASSING, 9, Wanted::Best(7, &[2, 2])),
     ("one ship stays", STAYING, 16, Wanted::Best(30, &[2, 3])),
