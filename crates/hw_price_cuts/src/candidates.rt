@@ -7,6 +7,7 @@ use crate::distances::Distances;
 use hw_flat::{Flat, ShipId, Slot};
 use hw_model::{Job, NoMemory, Rule};
 use hw_price_laws::{Block, Blocks, Toll, Weights};
+use hw_rules::Fleet;
 use std::alloc::Global;
 
 /// The candidates of a problem, in a fixed order.
@@ -26,20 +27,21 @@ pub(crate) fn candidates(
     Ok(out)
 }
 
-/// Adds the tugs of the rule at a place in each slot; other rules have none.
+/// Adds the tugs of the rule at a place in each slot, of which there are those of its fleet in that slot; other rules have none.
 fn add_tugs(alloc: Global, flat: &Flat, place: u32, out: &mut Vec<Toll>) -> Result<(), NoMemory>
     requires inside { place < length flat.now.rules }
 {
     let restriction = flat.shape().ships + place;
     match &flat.rules()[place as usize] {
-        Rule::Tugs { fleet, jobs } => {
+        Rule::Tugs { fleet, later, jobs } => {
+            let mut fleet = Fleet::new(*fleet, &later.items);
             for slot in 0..flat.horizon() {
                 let weights = weights_of(alloc, &jobs.items)?;
                 out.push(Toll::Tugs {
                     restriction,
                     slot,
                     weights,
-                    most: *fleet,
+                    most: fleet.tugs_in(slot),
                 })?;
             }
             Ok(())

@@ -1,4 +1,4 @@
-//! Cover inequalities: jobs of which the fleet can serve at most k at once, violated by the slots chosen so far.
+//! Cover inequalities: jobs of which the fleet of a slot can serve at most k at once, violated by the slots chosen so far.
 //! See E. Balas, "Facets of the Knapsack Polytope", Mathematical Programming 8, 1975.
 
 use crate::finds::Finds;
@@ -7,6 +7,7 @@ use crate::settings::{OVERFILLED, SERVED};
 use hw_flat::Slot;
 use hw_model::{Job, NoMemory, Rule};
 use hw_price_laws::{Toll, Weights};
+use hw_rules::Fleet;
 use std::alloc::Global;
 
 /// A job, by how often its ship held its tugs in a slot.
@@ -34,6 +35,7 @@ struct TugSlot<'b> {
     /// The rule's number among the restrictions.
     restriction: u32,
     slot: Slot,
+    /// The fleet of that slot.
     fleet: u32,
     jobs: &'b [Job],
 }
@@ -70,12 +72,13 @@ pub(crate) fn find_covers(
 ) -> Result<(), NoMemory> {
     let shape = choices.flat.shape();
     for place in 0..shape.rules {
-        if let Rule::Tugs { fleet, jobs } = &choices.flat.rules()[place as usize] {
+        if let Rule::Tugs { fleet, later, jobs } = &choices.flat.rules()[place as usize] {
+            let mut fleet = Fleet::new(*fleet, &later.items);
             for slot in 0..choices.flat.horizon() {
                 let tug_slot = TugSlot {
                     restriction: shape.ships + place,
                     slot,
-                    fleet: *fleet,
+                    fleet: fleet.tugs_in(slot),
                     jobs: &jobs.items,
                 };
                 covers_at(alloc, choices, tug_slot, finds)?;

@@ -1,7 +1,7 @@
 //! A timetable on the way: some ships have slots, and the others see which slots these leave them.
 
 use crate::given::Given;
-use crate::holds::Holds;
+use crate::holds::{Holds, tugs_by_slot};
 use hw_flat::{Flat, ShipId};
 use hw_model::{NoMemory, Rule, Slot};
 use std::alloc::Global;
@@ -25,8 +25,9 @@ impl Draft {
         }
         let mut holds = Holds::new(alloc, shape.ships)?;
         for rule in flat.rules() {
-            if let Rule::Tugs { fleet, jobs } = rule {
-                holds.add(alloc, *fleet, &jobs.items, flat.horizon())?;
+            if let Rule::Tugs { fleet, later, jobs } = rule {
+                let tugs = tugs_by_slot(alloc, *fleet, &later.items, flat.horizon())?;
+                holds.add(tugs, &jobs.items)?;
             }
         }
         Ok(Draft {

@@ -1,7 +1,8 @@
 //! The tugs that are left in each slot.
 
 use hw_flat::ShipId;
-use hw_model::{Job, NoMemory, Slot};
+use hw_model::{Job, NoMemory, Slot, Step};
+use hw_rules::Fleet;
 use std::alloc::Global;
 
 /// Tugs of a fleet that a ship holds from its slot on.
@@ -34,17 +35,10 @@ impl Holds {
         })
     }
 
-    /// Adds a fleet, with its jobs, in a problem with this many slots to sail in.
-    pub(crate) fn add(
-        &mut self,
-        alloc: Global,
-        tugs: u32,
-        jobs: &[Job],
-        horizon: Slot,
-    ) -> Result<(), NoMemory> {
+    /// Adds a fleet by the tugs that it has in each slot, with its jobs.
+    pub(crate) fn add(&mut self, tugs: Vec<i64>, jobs: &[Job]) -> Result<(), NoMemory> {
         let fleet = u32::try_from(self.left.len()).unwrap_or(u32::MAX);
-        self.left
-            .push(vec![in alloc; i64::from(tugs); horizon as usize]?)?;
+        self.left.push(tugs)?;
         for job in jobs {
             if let Some(holds) = self.holds.get_mut(job.ship as usize) {
                 holds.push(Hold {
@@ -93,6 +87,21 @@ impl Holds {
             }
         }
     }
+}
+
+/// The tugs that a fleet has in each of this many slots.
+pub(crate) fn tugs_by_slot(
+    alloc: Global,
+    fleet: u32,
+    later: &[Step],
+    horizon: Slot,
+) -> Result<Vec<i64>, NoMemory> {
+    let mut fleet = Fleet::new(fleet, later);
+    let mut tugs = Vec::new(alloc);
+    for slot in 0..horizon {
+        tugs.push(i64::from(fleet.tugs_in(slot)))?;
+    }
+    Ok(tugs)
 }
 
 fn take_from(left: &mut [i64], hold: Hold, slot: Slot, times: i64) {
