@@ -13,13 +13,13 @@ import pytest
 from conftest import Made
 
 TOOLS = pathlib.Path(__file__).resolve().parent.parent
-INFO = 'pub const VERSION: &str = "0.1.0";\n\npub const BUILD: &str = "";\n'
+INFO = 'pub const VERSION: &str = "1.0.0";\n\npub const BUILD: &str = "";\n'
 
 # A program that says its version, with its build's name where it has one, and checks the day.
 PROGRAM = """\
 #!/bin/sh
 case "$1" in
-    --version) echo "tidewise 0.1.0NAME" ;;
+    --version) echo "tidewise 1.0.0NAME" ;;
     check) echo "optimal 408410.0" ;;
 esac
 """
@@ -119,7 +119,7 @@ def test_other_words_are_refused(clone: Clone, words: list[str]) -> None:
         (PROGRAM.replace("NAME", " proved 36e16218"), [], 1),
         (PROGRAM.replace("NAME", ""), ["proved 36e16218"], 1),
         (PROGRAM.replace("NAME", "").replace("408410", "408411"), [], 1),
-        (PROGRAM.replace("NAME", "").replace("0.1.0", "0.2.0"), [], 1),
+        (PROGRAM.replace("NAME", "").replace("1.0.0", "0.2.0"), [], 1),
     ],
 )
 def test_a_program_is_tried(clone: Clone, program: str, words: list[str], status: int) -> None:
@@ -133,7 +133,7 @@ def test_a_release_says_that_it_is_proved(clone: Clone) -> None:
     file = clone.top / "room/bin/tidewise"
     ran = clone.run("release", str(file))
     assert ran.returncode == 0, ran.stderr
-    assert subprocess.run([file, "--version"], capture_output=True, text=True).stdout == f"tidewise 0.1.0 proved {commit}\n"
+    assert subprocess.run([file, "--version"], capture_output=True, text=True).stdout == f"tidewise 1.0.0 proved {commit}\n"
     folder, built, copy, built_there = clone.said.read_text().splitlines()
     assert folder == str(clone.made.crates / "tidewise") and built == built_there == "stamp"
     assert re.fullmatch(r"/.*/crates/tidewise", copy) and copy != folder and not os.path.exists(copy)
