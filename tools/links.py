@@ -9,7 +9,7 @@ from collections.abc import Iterator
 import crate_list
 
 MAP = "crates/README.md"
-PAGES = ("README.md", "docs/*.md", "crates/*.md", "crates/*/*.md", "tools/*.md", "bench/*.md", "evidence/*.md", "audit/*.md", "examples/*.md")
+PAGES = ("*.md", "docs/*.md", "crates/*.md", "crates/*/*.md", *(f"{it}/*.md" for it in ("tools", "board", "bench", "evidence", "audit", "examples")))
 
 
 def pages(top: pathlib.Path) -> list[str]:
