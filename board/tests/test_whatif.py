@@ -226,7 +226,7 @@ class WhatIf(unittest.TestCase):
     def test_program(self):
         if not PROGRAM:
             self.skipTest("no built program was named")
-        # FORMS says what the shortage of tugs costs there: with 8 all three ships have theirs in slot 22.
+        # examples/README.md says what the shortage of tugs costs there: with 8 all three ships have theirs in slot 22.
         rows = self.rows("--program", PROGRAM, *(os.path.join(HERE, name) for name in ("tugs.json", "tide.csv")), "fleet=8",
                          "fleet=4", "fleet=2", "later=Curlew:4")
         self.assertEqual(rows[:2], [["as it is", "optimal", "106780.0", "", ""],
