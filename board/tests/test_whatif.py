@@ -237,7 +237,7 @@ class WhatIf(unittest.TestCase):
         day = self.rows("--program", PROGRAM, *(os.path.join(HERE, name) for name in ("day.json", "day-tides.csv")),
                         "deeper=Bar:10")
         self.assertEqual(day[1], ["Bar 10 cm deeper", "optimal", "311956.0", "", "+3660.0"])
-        with open(os.path.join(HERE, "..", "docs", "VARIANTS.md"), encoding="utf-8") as file:
+        with open(os.path.join(HERE, "README.md"), encoding="utf-8") as file:
             self.assertTrue(" 3660.0 tonnes" in file.read())
 
 
