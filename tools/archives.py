@@ -9,6 +9,7 @@ import io
 import os
 import pathlib
 import re
+import shlex
 import string
 import subprocess
 import tarfile
@@ -18,10 +19,10 @@ from collections.abc import Iterable
 
 import crate_list
 
-# What is packed with the program, and what the program is made of.
+# What is packed with the program, and what the program is made of: what is to be read beside it isn't.
 PACKED = ("audit/check.py", "board/pyproject.toml", "board/tidewise_board", "docs/tidewise.1", "examples", "tools/archived")
-SOURCES = ("HANDLES", "crates", "crates.txt")
-SUM = f"git ls-files -z {' '.join(SOURCES)} | LC_ALL=C sort -z | xargs -0 sha256sum | sha256sum"
+SOURCES = ("HANDLES", "crates", "crates.txt", ":!*.md")
+SUM = f"git ls-files -z {shlex.join(SOURCES)} | LC_ALL=C sort -z | xargs -0 sha256sum | sha256sum"
 # The time of each file: the first that a zip can tell.
 TIME, ZIP_TIME = 315532800, (1980, 1, 1, 0, 0, 0)
 GATE_LINES = 12
