@@ -10,6 +10,28 @@ def listed(file: pathlib.Path) -> dict[str, list[str]]:
     return {crate.strip(): names.split() for crate, _, names in rows}
 
 
+def rooms(file: pathlib.Path) -> dict[str, list[str]]:
+    """The crates of each room, which is a heading of the file."""
+    found: dict[str, list[str]] = {}
+    room = ""
+    for row in file.read_text().splitlines():
+        if row.startswith("#"):
+            room = row.removeprefix("#").strip()
+        elif row.strip():
+            found.setdefault(room, []).append(row.partition(":")[0].strip())
+    return found
+
+
+def purpose(crate: pathlib.Path) -> list[str]:
+    """The paragraphs with which a crate's source begins: what it is for. Each is one line."""
+    for name in ("lib.rt", "main.rt"):
+        file = crate / "src" / name
+        lines = [row.removeprefix("//!").strip() for row in file.read_text().splitlines() if row.startswith("//!")] if file.is_file() else []
+        if lines:
+            return [" ".join(text.split("\n")) for text in "\n".join(lines).split("\n\n")]
+    return []
+
+
 def below(crate: str, crates: dict[str, list[str]]) -> set[str]:
     """The crates of this list on which a crate stands."""
     found: set[str] = set()

@@ -9,7 +9,7 @@ from collections.abc import Iterator
 import crate_list
 
 MAP = "crates/README.md"
-PAGES = ("README.md", "docs/*.md", "crates/*.md", "crates/*/*.md", "tools/*.md", "bench/*.md", "evidence/*.md", "audit/*.md", "examples/*.md")
+PAGES = ("*.md", "docs/*.md", "crates/*.md", "crates/*/*.md", *(f"{it}/*.md" for it in ("tools", "board", "bench", "evidence", "audit", "examples")))
 
 
 def pages(top: pathlib.Path) -> list[str]:
@@ -45,15 +45,13 @@ def words_of(text: str) -> Iterator[tuple[str, list[str]]]:
 
 
 def unmapped(top: pathlib.Path) -> Iterator[str]:
-    """Crates that the map's figure or its tables lack, and names there that are no crates."""
+    """Crates that the map's figure lacks or whose source doesn't say what they are for, and names in the figure that are no crates."""
     crates = set(crate_list.listed(top / "crates.txt"))
-    text = (top / MAP).read_text()
-    figure = "\n".join(line for line in text.splitlines() if line.startswith("    "))
+    figure = "\n".join(line for line in (top / MAP).read_text().splitlines() if line.startswith("    "))
     named = set(re.findall(r"\b(?:hw|tidewise)(?:_\w+)?\b", figure))
-    rows = {name for row in re.findall(r"^\| (`[^|]*) \|", text, re.M) for name in re.findall(r"`(\w+)`", row)}
     yield from (f"{MAP}: its figure lacks {it}" for it in sorted(crates - named))
-    yield from (f"{MAP}: its tables lack {it}" for it in sorted(crates - rows))
-    yield from (f"{MAP}: there is no crate {it}" for it in sorted((named | rows) - crates))
+    yield from (f"{MAP}: there is no crate {it}" for it in sorted(named - crates))
+    yield from (f"crates/{it}: its source doesn't begin with what it is for" for it in sorted(crates) if not crate_list.purpose(top / "crates" / it))
 
 
 def missing(top: pathlib.Path) -> Iterator[str]:

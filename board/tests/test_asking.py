@@ -144,7 +144,7 @@ class TestCheck:
 
 
 class TestWindows:
-    """Over the example with calls and closed hours, whose windows docs/FORMS.md tells."""
+    """Over the example with calls and closed hours, whose windows examples/README.md tells."""
 
     def test_all(self, tw: Tw, calls: str) -> None:
         done = tw("windows", "--in", calls)

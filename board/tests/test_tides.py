@@ -313,7 +313,7 @@ class Planned(Room):
     def test_day(self):
         plan = self.program("solve", "port", self.example("day.json"), self.example("slot-tides.csv"), "100000", "p")
         self.assertEqual(plan[0], "optimal 307976.0")
-        with open(os.path.join(HERE, "..", "docs", "FORMS.md"), encoding="utf-8") as file:
+        with open(os.path.join(HERE, "README.md"), encoding="utf-8") as file:
             self.assertTrue(" 307976.0 tonnes" in file.read())
 
 

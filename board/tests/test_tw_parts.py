@@ -11,7 +11,7 @@ from ports import Tw, busy, changed, port, process, tw  # noqa: F401 - fixtures
 from test_tw_hostile import PATIENCE, script, searching, until
 
 PRELUDE = ["--prelude", "30"]
-# The steps of a day in parts as docs/VARIANTS.md has them, over the flat text, one part after the other.
+# The steps of a day in parts as examples/README.md has them, over the flat text, one part after the other.
 STEPS = """
 "$T" flatten "$D/day.json" "$D/tides.csv" > day.flat
 "$T" prove flat day.flat 30 prelude > /dev/null || [ $? = 2 ]

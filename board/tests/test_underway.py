@@ -81,7 +81,7 @@ def test_a_delay_outlives_a_repair(day: Day) -> None:
 
 
 def test_the_events_of_the_guide(day: Day) -> None:
-    """docs/FORMS.md, "A plan is watched": what is broken after each of examples/events.txt."""
+    """examples/README.md, "A plan is watched": what is broken after each of examples/events.txt."""
     slots = {0: 21, 1: 24}
     port = port_of(day.runs.program, day.runs.get(day.run)["instance"])
     for line in example("events.txt")[0][1].splitlines()[1:-1]:

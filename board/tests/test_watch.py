@@ -73,7 +73,7 @@ class Watched(Room):
 
 
 class Interrupted(Room):
-    """What docs/FORMS.md says of runs that are stopped."""
+    """What examples/README.md says of runs that are stopped."""
 
     def setUp(self):
         super().setUp()

@@ -226,7 +226,7 @@ class WhatIf(unittest.TestCase):
     def test_program(self):
         if not PROGRAM:
             self.skipTest("no built program was named")
-        # FORMS says what the shortage of tugs costs there: with 8 all three ships have theirs in slot 22.
+        # examples/README.md says what the shortage of tugs costs there: with 8 all three ships have theirs in slot 22.
         rows = self.rows("--program", PROGRAM, *(os.path.join(HERE, name) for name in ("tugs.json", "tide.csv")), "fleet=8",
                          "fleet=4", "fleet=2", "later=Curlew:4")
         self.assertEqual(rows[:2], [["as it is", "optimal", "106780.0", "", ""],
@@ -237,7 +237,7 @@ class WhatIf(unittest.TestCase):
         day = self.rows("--program", PROGRAM, *(os.path.join(HERE, name) for name in ("day.json", "day-tides.csv")),
                         "deeper=Bar:10")
         self.assertEqual(day[1], ["Bar 10 cm deeper", "optimal", "311956.0", "", "+3660.0"])
-        with open(os.path.join(HERE, "..", "docs", "VARIANTS.md"), encoding="utf-8") as file:
+        with open(os.path.join(HERE, "README.md"), encoding="utf-8") as file:
             self.assertTrue(" 3660.0 tonnes" in file.read())
 
 

@@ -1,8 +1,8 @@
 """Builds that say what they are: the copy with a name, what is tried of a program, and a release with a kit that is played."""
 from __future__ import annotations
 
+import hashlib
 import os
-import pathlib
 import re
 import shutil
 import stat
@@ -10,67 +10,7 @@ import subprocess
 
 import pytest
 
-from conftest import Made
-
-TOOLS = pathlib.Path(__file__).resolve().parent.parent
-INFO = 'pub const VERSION: &str = "0.1.0";\n\npub const BUILD: &str = "";\n'
-
-# A program that says its version, with its build's name where it has one, and checks the day.
-PROGRAM = """\
-#!/bin/sh
-case "$1" in
-    --version) echo "tidewise 0.1.0NAME" ;;
-    check) echo "optimal 408410.0" ;;
-esac
-"""
-
-# Proves nothing, and makes the program of the crate in whose folder it runs.
-RT = """\
-#!/bin/sh
-grep -q broken src/info.rt && exit 1
-name=$(sed -n 's/^pub const BUILD: &str = "\\(.*\\)";$/\\1/p' src/info.rt)
-mkdir -p out
-sed "s/NAME/${name:+ $name}/" "$PLAYED" > out/tidewise
-chmod +x out/tidewise
-pwd >> "$SAID"
-ls ../hw_low/out/rlib >> "$SAID" 2> /dev/null || true
-"""
-
-
-class Clone:
-    """A clone of a small repository with these tools."""
-
-    def __init__(self, made: Made) -> None:
-        self.made, self.top = made, made.top
-        made.crate("hw_low", {"src/lib.rt": "// low\n", "out/rlib/stamp": "1"})
-        made.crate("tidewise", {"src/info.rt": INFO, "data/day": "", "out/tidewise": "old"}, "hw_low")
-        made.put(".gitignore", "out/\nroom/\nplayed/\n")
-        for name in ("named_copy", "try_program", "release"):
-            (self.top / "tools").mkdir(exist_ok=True)
-            shutil.copy(TOOLS / name, self.top / "tools")
-        self.git("init", "-q")
-        self.said = self.top / "played" / "said"
-        made.put("played/program", PROGRAM)
-        rt = made.put("played/rt", RT)
-        rt.chmod(rt.stat().st_mode | stat.S_IXUSR)
-
-    def git(self, *words: str) -> str:
-        who = ["-c", "user.name=a", "-c", "user.email=a@b"]
-        return subprocess.run(["git", *who, *words], cwd=self.top, check=True, capture_output=True, text=True).stdout.strip()
-
-    def commit(self) -> str:
-        self.git("add", "-A")
-        self.git("commit", "-qm", "A change")
-        return self.git("rev-parse", "--short=8", "HEAD")
-
-    def run(self, tool: str, *words: str) -> subprocess.CompletedProcess[str]:
-        played = {"PLAYED": str(self.top / "played/program"), "SAID": str(self.said), "PATH": f"{self.top}/played:{os.environ['PATH']}"}
-        return subprocess.run([self.top / "tools" / tool, *words], cwd="/", capture_output=True, text=True, env=os.environ | played)
-
-
-@pytest.fixture
-def clone(made: Made) -> Clone:
-    return Clone(made)
+from conftest import INFO, PROGRAM, Clone
 
 
 def test_a_copy_has_the_name_and_the_repository_not(clone: Clone) -> None:
@@ -119,7 +59,7 @@ def test_other_words_are_refused(clone: Clone, words: list[str]) -> None:
         (PROGRAM.replace("NAME", " proved 36e16218"), [], 1),
         (PROGRAM.replace("NAME", ""), ["proved 36e16218"], 1),
         (PROGRAM.replace("NAME", "").replace("408410", "408411"), [], 1),
-        (PROGRAM.replace("NAME", "").replace("0.1.0", "0.2.0"), [], 1),
+        (PROGRAM.replace("NAME", "").replace("1.0.0", "0.2.0"), [], 1),
     ],
 )
 def test_a_program_is_tried(clone: Clone, program: str, words: list[str], status: int) -> None:
@@ -133,10 +73,13 @@ def test_a_release_says_that_it_is_proved(clone: Clone) -> None:
     file = clone.top / "room/bin/tidewise"
     ran = clone.run("release", str(file))
     assert ran.returncode == 0, ran.stderr
-    assert subprocess.run([file, "--version"], capture_output=True, text=True).stdout == f"tidewise 0.1.0 proved {commit}\n"
+    assert subprocess.run([file, "--version"], capture_output=True, text=True).stdout == f"tidewise 1.0.0 proved {commit}\n"
     folder, built, copy, built_there = clone.said.read_text().splitlines()
     assert folder == str(clone.made.crates / "tidewise") and built == built_there == "stamp"
     assert re.fullmatch(r"/.*/crates/tidewise", copy) and copy != folder and not os.path.exists(copy)
+    noted = dict(row.split(" ", 1) for row in (clone.top / "room/bin/tidewise.proved").read_text().splitlines())
+    assert (noted["build"], noted["kit"]) == (f"tidewise 1.0.0 proved {commit}", "rattle-kit-played logic 0")
+    assert noted["commit"] == clone.git("rev-parse", "HEAD") and noted["program"] == hashlib.sha256(file.read_bytes()).hexdigest()
 
 
 def test_a_release_is_of_a_commit(clone: Clone) -> None:

@@ -27,3 +27,12 @@ def test_below_are_the_crates_of_the_list_alone(tmp_path: pathlib.Path) -> None:
 def test_the_longest_chain(tmp_path: pathlib.Path) -> None:
     assert crate_list.longest_chain(listed(tmp_path)) == ["hw_top", "hw_mid", "hw_low"]
     assert crate_list.longest_chain({}) == []
+
+
+def test_rooms_and_what_a_crate_is_for(tmp_path: pathlib.Path) -> None:
+    listed(tmp_path)
+    assert crate_list.rooms(tmp_path / "crates.txt") == {"ground": ["hw_low", "hw_mid"], "commands": ["hw_top", "hw_side"]}
+    (tmp_path / "hw_low/src").mkdir(parents=True)
+    (tmp_path / "hw_low/src/lib.rt").write_text("//! Low: it is\n//! for all.\n//!\n//! More.\n#![tactic(auto)]\n// no more\n")
+    assert crate_list.purpose(tmp_path / "hw_low") == ["Low: it is for all.", "More."]
+    assert crate_list.purpose(tmp_path / "hw_mid") == []

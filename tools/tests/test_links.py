@@ -11,18 +11,12 @@ MAP = """\
     ground      hw_low (files), hw_mid
 
 `hw_text` is no longer there.
-
-| crate | what | on |
-|---|---|---|
-| `tidewise` | the program | mid |
-| `hw_mid`* | the middle | low |
-| `hw_low` | the ground, with `hw_words` | |
 """
 
 
 def repository(made: Made) -> Made:
     for name in ("tidewise", "hw_mid", "hw_low"):
-        made.crate(name, {"specs/Ships.antt": "-- Ships.\nabbrev pub draft_of : ℕ\ndraft_of = 3\n"})
+        made.crate(name, {"specs/Ships.antt": "-- Ships.\nabbrev pub draft_of : ℕ\ndraft_of = 3\n", "src/lib.rt": "//! Ships.\n"})
     made.put("crates/README.md", MAP)
     made.put("README.md", "[the map](crates/README.md) [more](https://elsewhere/x) `docs/A.md` `crates/NAME/must-fail` `crates/hw_low/out/x`\n")
     made.put("docs/A.md", "[back](../README.md#top) [here](#there)\n")
@@ -54,13 +48,10 @@ def test_words_are_defined_where_their_row_says(made: Made) -> None:
     ]
 
 
-def test_each_crate_stands_in_the_figure_and_in_a_table(made: Made) -> None:
+def test_each_crate_stands_in_the_figure_and_says_what_it_is_for(made: Made) -> None:
     top = repository(made).top
-    made.crate("hw_new", {"src/lib.rt": ""})
-    assert list(links.missing(top)) == ["crates/README.md: its figure lacks hw_new", "crates/README.md: its tables lack hw_new"]
-    made.put("crates/README.md", MAP.replace("hw_mid\n", "hw_new, hw_old\n").replace("| `hw_mid`", "| `hw_new`"))
-    assert list(links.missing(top)) == [
-        "crates/README.md: its figure lacks hw_mid",
-        "crates/README.md: its tables lack hw_mid",
-        "crates/README.md: there is no crate hw_old",
-    ]
+    made.crate("hw_new", {"src/lib.rt": "// new\n"})
+    assert list(links.missing(top)) == ["crates/README.md: its figure lacks hw_new", "crates/hw_new: its source doesn't begin with what it is for"]
+    made.put("crates/hw_new/src/lib.rt", "//! New.\n")
+    made.put("crates/README.md", MAP.replace("hw_mid\n", "hw_new, hw_old\n"))
+    assert list(links.missing(top)) == ["crates/README.md: its figure lacks hw_mid", "crates/README.md: there is no crate hw_old"]

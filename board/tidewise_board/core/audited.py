@@ -64,7 +64,7 @@ def audited(program: Program, data: bytes) -> Audited:
         return Audited(bundle, line, None, second(files), [], None, names)
     picture = printed(program, "chart", *words[1:])
     table = printed(program, "table", *words[1:])
-    parts = [same("picture.svg", files, picture, "drawn anew from its certificate"), same("table.csv", files, table, "made anew from its certificate"),
+    parts = [same("picture.svg", files, picture, "drawn again from its certificate"), same("table.csv", files, table, "made again from its certificate"),
              calendar_part(program, files, names, table, line), source_part(program, files)]
     return Audited(bundle, line, said, second(files), [part for part in parts if part is not None], picture, names)
 
@@ -86,7 +86,7 @@ def calendar_part(program: Program, files: dict[str, bytes], names: dict[str, st
         return None
     rows = list(csv.DictReader(io.StringIO(table or "", newline="")))
     made = calendar(port_of(program, names["day.json"]), rows, line, names["certificate"])
-    return same("sailings.ics", files, made, "made anew from its table")
+    return same("sailings.ics", files, made, "made again from its table")
 
 
 def source_part(program: Program, files: dict[str, bytes]) -> Part | None:

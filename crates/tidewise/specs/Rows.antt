@@ -3,6 +3,6 @@ use Rattle.std.specs.Prelude.{◌≡◌, codes}
 use Rattle.tidewise.specs.Info.{version_text}
 
 pub record VersionRows : Type 0 where
-  pub of_the_repository : version_text (codes "0.1.0") (codes "") ≡ codes "tidewise 0.1.0\n"
-  pub unproved : version_text (codes "0.1.0") (codes "unproved 36e16218") ≡ codes "tidewise 0.1.0 unproved 36e16218\n"
+  pub of_the_repository : version_text (codes "1.0.0") (codes "") ≡ codes "tidewise 1.0.0\n"
+  pub unproved : version_text (codes "1.0.0") (codes "unproved 36e16218") ≡ codes "tidewise 1.0.0 unproved 36e16218\n"
   pub proved : version_text (codes "1.0.0") (codes "proved 36e16218") ≡ codes "tidewise 1.0.0 proved 36e16218\n"

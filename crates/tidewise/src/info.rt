@@ -9,7 +9,7 @@ use crate::help::put_help;
 use hw_desk::{Desk, DeskFailed, Tray, TrayWriter, Writer};
 
 /// The version of the program.
-pub const VERSION: &str = "0.1.0";
+pub const VERSION: &str = "1.0.0";
 
 /// Which build this is: whether it was proved, and its commit. Empty in the repository; `tools/quick`
 /// and `tools/release` build a copy in which it says so.
