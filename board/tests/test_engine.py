@@ -9,12 +9,12 @@ import sys
 import time
 
 import pytest
-from browser import PROGRAM
+from browser import PROGRAM, nameable
 from conftest import example
 from hard import hard
 from tidewise_board.core import days, facts, pins, reading
 from tidewise_board.core.progress import Follower, whole_lines
-from tidewise_board.core.program import Failed, Program, Text
+from tidewise_board.core.program import Failed, Program, Text, digest_of
 from tidewise_board.core.runs import Inputs, Runs, start_of
 from tidewise_board.core.shown import cost, costs_words, headline, shown
 from tidewise_board.core.store import Damaged, Store
@@ -102,10 +102,10 @@ def test_two_checkers_that_differ(store: Store, tmp_path: object) -> None:
     """A program that says a tonne too much, and is even named as proved."""
     path = os.path.join(str(tmp_path), "liar")
     with open(path, "w", encoding="utf-8") as file:
-        file.write(f"#!/bin/sh\n/usr/bin/env -S {PROGRAM} \"$@\" > said\nstatus=$?\n/bin/sed s/457229.0/457230.0/ said\nexit $status\n")
+        file.write(f"#!/bin/sh\n/usr/bin/env -S {nameable()} \"$@\" > said\nstatus=$?\n/bin/sed s/457229.0/457230.0/ said\nexit $status\n")
     os.chmod(path, 0o700)
-    program = Program(path, store)
-    program.trusted = True
+    program = Program(path, store, [digest_of(path)])
+    assert program.trusted
     made = days.make(days.dropped(example("contested.json", "day-tides.csv")), program)
     assert made.instance and made.tides, made.told
     store.insert("INSERT INTO day(name) VALUES ('contested')")

@@ -9,10 +9,12 @@ import re
 import signal
 import subprocess
 import threading
+import zipfile
 
 import pytest
-from browser import PROGRAM, ROOT
+from browser import PROGRAM, ROOT, nameable
 from ports import Tw, busy, changed, port, tw, words_of  # noqa: F401 - fixtures
+from tidewise_board.core import trust
 
 
 def test_a_folder_becomes_a_plan(tw: Tw, port: str) -> None:
@@ -119,16 +121,56 @@ def test_a_day_under_way_isnt_planned_anew_by_mistake(tw: Tw, port: str) -> None
 
 def test_a_program_that_was_named(tw: Tw, port: str) -> None:
     assert "unproved build" in tw("trust").out
-    assert tw("trust", PROGRAM).status == 0
-    assert tw("plan", port).out.startswith("Proved best: 150,962.0 t\n")
-    assert tw("plan", port, "--json").json()["seal"] == "proved"
+    named = nameable()
+    plan = ("plan", port, "--program", named)
+    assert tw("trust", named).status == 0
+    assert tw(*plan).out.startswith("Proved best: 150,962.0 t\n")
+    assert tw(*plan, "--json").json()["seal"] == "proved"
     listed = tw("trust", "--json").json()
-    assert [one["path"] for one in listed["programs"]] == [os.path.realpath(PROGRAM)]
+    assert [one["path"] for one in listed["programs"]] == [os.path.realpath(named)]
     # A list in which others may write names nothing.
     os.chmod(listed["list"], 0o666)
-    assert "unproved build" in tw("plan", port).out
+    assert "unproved build" in tw(*plan).out
     os.chmod(listed["list"], 0o644)
-    assert tw("trust", "--forget", PROGRAM).status == 0 and "unproved build" in tw("plan", port).out
+    assert tw("trust", "--forget", named).status == 0 and "unproved build" in tw(*plan).out
+
+
+def build(path: str, name: str) -> str:
+    """A script that answers `--version` as a build of this name, and leaves all else to the program."""
+    with open(path, "w", encoding="utf-8") as file:
+        file.write(f'#!/bin/sh\n[ "$*" != --version ] || {{ echo "tidewise 1.0.0{name}"; exit; }}\nexec {PROGRAM} "$@"\n')
+    os.chmod(path, 0o700)
+    return path
+
+
+def says_proved(text: str) -> bool:
+    return re.search(r"\bproved", text, re.IGNORECASE) is not None
+
+
+@pytest.mark.parametrize("name", [" unproved c47e5be0", " unproved uncommitted"])
+def test_an_unproved_build_cant_be_named(tw: Tw, port: str, tmp_path: object, name: str) -> None:
+    quick = build(os.path.join(str(tmp_path), "tidewise"), name)
+    done = tw("trust", quick)
+    assert done.status == 4 and done.out == "" and f"`tidewise 1.0.0{name}`" in done.err and "tools/release" in done.err
+    assert tw("trust", "--json").json()["programs"] == []
+    # Nor where its SHA-256 stands in the list, as an older `tw` wrote it.
+    with open(quick, "rb") as file:
+        trust.name(hashlib.sha256(file.read()).hexdigest(), quick)
+    done = tw("plan", port, "--program", quick)
+    assert done.out.startswith("Best, says an unproved build: 150,962.0 t\n") and not says_proved(done.out)
+    answer = tw("plan", port, "--program", quick, "--json").json()
+    assert answer["seal"] == "" and answer["program"]["said"] == f"tidewise 1.0.0{name}, an unproved build"
+    with zipfile.ZipFile(tw("publish", port, "--program", quick, "--json").json()["file"]) as bundle:
+        assert b"AN UNPROVED BUILD" in bundle.read("README.txt")
+
+
+def test_a_named_program_that_an_unproved_one_replaces(tw: Tw, port: str, tmp_path: object) -> None:
+    path = build(os.path.join(str(tmp_path), "tidewise"), " proved c47e5be0")
+    plan = ("plan", port, "--program", path)
+    assert tw("trust", path).status == 0 and tw(*plan).out.startswith("Proved best: ")
+    build(path, " unproved c47e5be0")
+    assert tw(*plan).out.startswith("Best, says an unproved build: ") and tw(*plan, "--json").json()["seal"] == ""
+    assert not says_proved(tw("plans", port, "--program", path).out)
 
 
 def test_faults_of_files_have_the_status_of_bad_input(tw: Tw, port: str) -> None:

@@ -10,7 +10,7 @@ import zipfile
 from collections.abc import Callable
 
 import pytest
-from browser import PROGRAM
+from browser import PROGRAM, nameable
 from ports import Tw, changed, port, process, tw  # noqa: F401 - fixtures
 
 Files = dict[str, bytes]
@@ -97,10 +97,10 @@ def test_a_file_that_lies_is_found(tw: Tw, bundle: str, tmp_path: object, lie: s
     files = LIES[lie](before)
     assert files != before
     path = zipped(os.path.join(str(tmp_path), "lie.zip"), files)
-    tw("trust", PROGRAM)
-    done = tw("verify", path)
+    tw("trust", nameable())
+    done = tw("verify", path, "--program", nameable())
     assert done.status == 5 and "Nothing is said of this plan." in done.out and "NO" in done.out and "Proved" not in done.out
-    answer = tw("verify", path, "--json").json()
+    answer = tw("verify", path, "--program", nameable(), "--json").json()
     assert answer["verdict"] is None and answer["seal"] == "" and answer["cargo_t"] is None
 
 
@@ -117,9 +117,9 @@ def test_what_is_no_published_file(tw: Tw, tmp_path: object, name: str, data: by
 def test_nothing_is_published_where_the_checkers_differ(tw: Tw, port: str, tmp_path: object) -> None:
     liar = os.path.join(str(tmp_path), "liar")
     with open(liar, "w", encoding="utf-8") as file:
-        file.write(f"#!/bin/sh\n{PROGRAM} \"$@\" > said\nstatus=$?\n/bin/sed s/150962.0/150963.0/ said\nexit $status\n")
+        file.write(f"#!/bin/sh\n{nameable()} \"$@\" > said\nstatus=$?\n/bin/sed s/150962.0/150963.0/ said\nexit $status\n")
     os.chmod(liar, 0o700)
-    tw("trust", liar)
+    assert tw("trust", liar).status == 0
     assert tw("plan", port, "--program", liar).status == 0
     done = tw("publish", port, "--program", liar)
     assert done.status == 4 and "the second checker optimal 150962.0" in done.err

@@ -12,7 +12,7 @@ import time
 from collections.abc import Iterator
 
 import pytest
-from browser import PROGRAM, ROOT
+from browser import PROGRAM, ROOT, nameable
 from ports import Done, Tw, busy, calls, changed, port, process, tw, words_of  # noqa: F401 - fixtures
 from tidewise_board.command import book
 from tidewise_board.core import program as programs
@@ -60,7 +60,7 @@ def searching(folder: str) -> list[int]:
 def script(tmp_path: object, text: str) -> str:
     path = os.path.join(str(tmp_path), "fake")
     with open(path, "w", encoding="utf-8") as file:
-        file.write(f"#!/bin/sh\n{text.replace('REAL', PROGRAM)}\n")
+        file.write(f"#!/bin/sh\n{text.replace('REAL', nameable())}\n")
     os.chmod(path, 0o700)
     return path
 
@@ -345,17 +345,18 @@ def test_a_store_that_was_changed(tw: Tw, port: str) -> None:
 
 def test_an_answer_that_somebody_put_there(tw: Tw, port: str) -> None:
     """A folder may come from others: what `verify` says is asked anew."""
-    tw("trust", PROGRAM)
-    tw("plan", port)
+    named = ("--program", nameable())
+    assert tw("trust", nameable()).status == 0
+    tw("plan", port, *named)
     store = Store(os.path.join(port, ".tw"))
     lie = store.put(b"optimal 999999.0\n")
     with store.change() as db:
         assert db.execute("UPDATE answer SET output = ? WHERE words LIKE '[\"verify%'", (lie,)).rowcount == 1
         db.execute("UPDATE run SET verdict = 'optimal 999999.0'")
-    assert tw("plans", port, "--json").json()["plans"][0]["headline"] == "Proved best: 150,962.0 t"
+    assert tw("plans", port, *named, "--json").json()["plans"][0]["headline"] == "Proved best: 150,962.0 t"
     with store.change() as db:
         db.execute("UPDATE answer SET output = ? WHERE words LIKE '[\"verify%'", (lie,))
-    assert tw("plan", port).out.startswith("Proved best: 150,962.0 t\n")
+    assert tw("plan", port, *named).out.startswith("Proved best: 150,962.0 t\n")
 
 
 def test_a_folder_that_cant_be_written(tw: Tw, port: str) -> None:

@@ -35,7 +35,9 @@ def build_words(program: Program) -> str:
 
 
 def warning_words(program: Program) -> str:
-    """What stands on each page of a program that nobody named."""
+    """What stands on each page of a program that nobody named, or that says of itself that it is unproved."""
+    if program.unproved:
+        return "The board calls nothing proved: this program says of itself that it was built without its proof."
     return (f"The board calls nothing proved: this program’s SHA-256, {program.digest[:12]}…, isn’t one that you named as that of a"
             " proved program.")
 
