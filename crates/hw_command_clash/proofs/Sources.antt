@@ -20,10 +20,6 @@ use Rattle.hw_subject.specs.declared.subject.Given.{Given}
 use Rattle.hw_subject.proofs.Modelled.{subjects_modelled_law}
 use Rattle.hw_command_clash.specs.Asked.{asked, asked_by}
 
--- by a plan under a name
-abbrev planned : Origin → List ℕ → Topic
-planned origin name = record { origin = origin; plan = Some name }
-
 -- ---- what was read
 
 pub is_asked : {s : Subject} {x y : DeskState} {given : Given} → (h : ReadsSubject s x y given) → asked_by given.flat (plan_in given.repair) ≡ asked s h.value

@@ -14,7 +14,7 @@ use Rattle.hw_flat.specs.TextWritten.{rule_text}
 use Rattle.hw_flat.proofs.HourRules.{RuleIn}
 use Rattle.hw_flat.proofs.TextRows.{text_read}
 use Rattle.hw_flat_laws.specs.FirstLines.{later_line, numbered_line}
-use Rattle.hw_flat_laws.specs.Wanted.{SaysSize, rule_at, IsWanted, OutOfRules}
+use Rattle.hw_flat_laws.specs.Wanted.{SaysSize, rule_on_line, IsWanted, OutOfRules}
 use Rattle.hw_flat_laws.proofs.Same.{Parts, Full, Same, full_after, full_is, full_some, has, after_next, after_front, drop_front}
 use Rattle.hw_flat_laws.proofs.Refusals.{Mend, Dead, Refused, followed, mend_past_lines, dead_followed, dead_past_lines, dead_line}
 use Rattle.hw_flat_laws.proofs.ShipLines.{Row, Ended, hour_rules, filled, is_err, not_both, ShipsRead, ships_refused, ships_read, ships_leave, last_ship}
@@ -209,7 +209,7 @@ found_line header size_line version size body x rules rest number i g place =
 
 -- where none of the rules needs hours, so say their lines
 found_plain : (header size_line : List ℕ) (version : Bool × Bool) (size : ℕ × ℕ) (body : Parts) (x : Row × Parts) (rules : List Rule) (rest : Parts) (line : ℕ) → Found header size_line version size body x rules rest → any_hours rules ≡ false → 3 + size.0 ≤ line → line < 3 + size.0 + length rules
-    → (rule : Rule) × (rule_at (header ∷ size_line ∷ body) version size.0 size.1 line ≡ Some rule) × (has_hours rule ≡ false)
+    → (rule : Rule) × (rule_on_line (header ∷ size_line ∷ body) version size.0 size.1 line ≡ Some rule) × (has_hours rule ≡ false)
 found_plain header size_line version size body x rules rest line g none from to =
     let i : ℕ = line - (3 + size.0) in
     let place : line ≡ 3 + size.0 + i = omega (arith, from) in
@@ -308,7 +308,7 @@ end_bad header size_line version size body x y e a b full h k none t =
     let at_last : length y.0 ≡ length written + 0 = omega (arith, written_count) in
     let ends : numbered_line (header ∷ size_line ∷ body) d.number ≡ Some (codes "end") =
     found_line header size_line version size body x y.0 rest d.number (length y.0) g refl ∙ ap (λ n. later_line n (written ++ rest)) at_last ∙ after_front 0 written rest more ∙ (rw last.2 refl) in
-    let plain : (line : ℕ) → 3 + size.0 ≤ line → line < d.number → IfSome (rule_at (header ∷ size_line ∷ body) version size.0 size.1 line) (λ rule. has_hours rule ≡ false) = λ line from to.
+    let plain : (line : ℕ) → 3 + size.0 ≤ line → line < d.number → IfSome (rule_on_line (header ∷ size_line ∷ body) version size.0 size.1 line) (λ rule. has_hours rule ≡ false) = λ line from to.
     let p = found_plain header size_line version size body x y.0 rest line g needs.1 from to in
     subst (λ o. IfSome o (λ rule. has_hours rule ≡ false)) (sym p.1) p.2 in
     subst (BodyRefused header size_line version size body) same (record {

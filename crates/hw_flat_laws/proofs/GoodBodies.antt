@@ -13,7 +13,7 @@ use Rattle.hw_flat.specs.TextForms.{header_form, size_form, row_form, rule_form,
 use Rattle.hw_flat.specs.TextWritten.{rule_text}
 use Rattle.hw_flat.proofs.TextRows.{text_read, step}
 use Rattle.hw_flat_laws.specs.FirstLines.{later_line, numbered_line}
-use Rattle.hw_flat_laws.specs.Wanted.{SaysSize, rule_at, IsWanted}
+use Rattle.hw_flat_laws.specs.Wanted.{SaysSize, rule_on_line, IsWanted}
 use Rattle.hw_flat_laws.proofs.Same.{Parts, Full, full_after, has, after_front, drop_front}
 use Rattle.hw_flat_laws.proofs.ShipLines.{Row, hour_rule, not_both, ships_read, ships_leave, each_ship}
 use Rattle.hw_flat_laws.proofs.RuleLines.{rules_were_read, rules_leave, each_rule}
@@ -153,7 +153,7 @@ wants_nothing header size_line body f number words.Rule full h within w =
       ]
       | inr (inl below) ↦
           let is = ap (has (rule_form w.version.1 w.ships w.slots)) line ∙ r.rule_lines i hour_rule below in
-          let none : rule_at (header ∷ size_line ∷ body) w.version w.ships w.slots number ≡ None = elim w.wrong [
+          let none : rule_on_line (header ∷ size_line ∷ body) w.version w.ships w.slots number ≡ None = elim w.wrong [
             | inl n ↦ n.wrong
             | inr n ↦ ap (has (rule_form w.version.1 w.ships w.slots)) n.end ∙ end_no_rule w.version.1 w.ships w.slots
           ] in
@@ -169,7 +169,7 @@ wants_nothing header size_line body f number words.Many full h within w =
     elim (cases_order 4_000 (length r.rules)) [
       | inl same ↦
           let ends : numbered_line (header ∷ size_line ∷ body) number ≡ Some (codes "end") = line ∙ ap (λ n. later_line n r.rest) same ∙ r.end in
-          let none : rule_at (header ∷ size_line ∷ body) w.version w.ships w.slots number ≡ None = ap (has (rule_form w.version.1 w.ships w.slots)) ends ∙ end_no_rule w.version.1 w.ships w.slots in
+          let none : rule_on_line (header ∷ size_line ∷ body) w.version w.ships w.slots number ≡ None = ap (has (rule_form w.version.1 w.ships w.slots)) ends ∙ end_no_rule w.version.1 w.ships w.slots in
           apart w.rule (sym none ∙ w.one_more)
       | inr (inl below) ↦ absurd (omega (arith, below, r.few))
       | inr (inr above) ↦
