@@ -1,5 +1,5 @@
 //! Small problems, drawn by number: ships that may stay, values with gaps, pairs with several holes,
-//! precedences both ways, and several rules on tugs.
+//! precedences both ways, and several rules on tugs, some of fleets by the hour.
 
 ghost use Rattle.std.specs.Prelude.{◌<◌, ◌≤◌};
 
@@ -9,6 +9,9 @@ use rand_pcg::Lcg64Xsh32;
 use rand_pcg::rand_core::utils::NextWord;
 use std::alloc::{AllocError, Global};
 use std::test::Fail;
+
+/// The first number of the problems with a fleet by the hour.
+pub const BY_THE_HOUR: u32 = 1_000;
 
 /// The text of a problem, as far as it is drawn.
 #[derive(Drop)]
@@ -129,6 +132,27 @@ impl Draft {
     fn tugs(&mut self, ships: u32) -> Result<(), AllocError> {
         let fleet = 2 + self.draw(5);
         self.number(b"u ", fleet)?;
+        self.jobs(ships)
+    }
+
+    /// The same of a fleet by the hour.
+    fn hours(&mut self, ships: u32, slots: u32) -> Result<(), AllocError>
+        requires some { 1 < slots }
+    {
+        let fleet = 1 + self.draw(5);
+        self.number(b"h ", fleet)?;
+        let first = 1 + self.draw(slots - 1);
+        for slot in first..slots {
+            if slot == first || self.draw(3) == 0 {
+                self.number(b" ", slot)?;
+                let fleet = 1 + self.draw(5);
+                self.number(b":", fleet)?;
+            }
+        }
+        self.jobs(ships)
+    }
+
+    fn jobs(&mut self, ships: u32) -> Result<(), AllocError> {
         self.job(0)?;
         for ship in 1..ships {
             if self.draw(4) != 0 {
@@ -138,8 +162,9 @@ impl Draft {
         self.put(b"\n")
     }
 
-    /// A problem of four or five ships in eight or nine slots, and now and then in four.
-    fn problem(&mut self, unit: u64) -> Result<(), AllocError> {
+    /// A problem of four or five ships in eight or nine slots, and now and then in four, with a fleet by the
+    /// hour or none.
+    fn problem(&mut self, unit: u64, by_the_hour: bool) -> Result<(), AllocError> {
         let stay = self.draw(3) == 0;
         let ships = 4 + self.draw(2);
         let slots = if self.draw(10) == 0 {
@@ -147,7 +172,7 @@ impl Draft {
         } else {
             8 + self.draw(2)
         };
-        self.put(if stay { b"flat 2\n" } else { b"flat 1\n" })?;
+        self.put(header(stay, by_the_hour))?;
         self.number(b"size ", ships)?;
         self.number(b" ", slots)?;
         self.put(b"\n")?;
@@ -158,16 +183,30 @@ impl Draft {
         for _rule in 0..self.draw(3) {
             self.tugs(ships)?;
         }
+        if by_the_hour {
+            self.hours(ships, slots)?;
+        }
         self.put(b"end\n")
     }
 }
 
-/// The problem of this number, whose values are at most 100 units.
+/// The first line of a text.
+fn header(stay: bool, by_the_hour: bool) -> &'static [u8] {
+    match (stay, by_the_hour) {
+        (false, false) => b"flat 1\n",
+        (true, false) => b"flat 2\n",
+        (false, true) => b"flat 3\n",
+        (true, true) => b"flat 4\n",
+    }
+}
+
+/// The problem of this number, whose values are at most 100 units. From `BY_THE_HOUR` on it has one
+/// rule more, on the tugs of a fleet by the hour.
 pub fn problem(alloc: Global, number: u32, unit: u64) -> Result<Flat, Fail> {
     let mut draft = Draft {
         words: Lcg64Xsh32::new(u64::from(number), 2),
         text: Vec::new(alloc),
     };
-    draft.problem(unit)?;
+    draft.problem(unit, BY_THE_HOUR <= number)?;
     Ok(Flat::read(alloc, &draft.text)?)
 }

@@ -4,7 +4,7 @@
 ghost use Rattle.std.specs.Prelude.{IsTrue};
 ghost use Rattle.hw_model.specs.Problem.{IsTimetable};
 
-use crate::drawn::problem;
+use crate::drawn::{BY_THE_HOUR, problem};
 use hw_flat::{Flat, Room, Timetable, make_demo};
 use hw_price_timetables::{Maker, Ranking};
 use hw_rules::{Walked, broken, cargo, walk};
@@ -73,6 +73,11 @@ fn by_regret(rt: HostRuntime) -> Result<(), Fail> {
 #[test]
 fn by_cargo(rt: HostRuntime) -> Result<(), Fail> {
     serve(&rt, rt.alloc(), 25, Ranking::Earnings)
+}
+
+#[test]
+fn by_fleets_by_the_hour(rt: HostRuntime) -> Result<(), Fail> {
+    serve(&rt, rt.alloc(), BY_THE_HOUR, Ranking::Regret)
 }
 
 // Forty ships that want the same slots.

@@ -1,7 +1,7 @@
 //! Small problems: what a plan answers is what the walk through all timetables finds.
 
 use crate::checked::{answered, checked};
-use crate::drawn::problem;
+use crate::drawn::{BY_THE_HOUR, problem};
 use crate::early::plan;
 use hw_cert::{Line, Verdict};
 use hw_flat::Flat;
@@ -124,6 +124,16 @@ fn problems_from_250_on(rt: HostRuntime) -> Result<(), Fail> {
 #[test]
 fn problems_from_275_on(rt: HostRuntime) -> Result<(), Fail> {
     serve(&rt, rt.alloc(), 275, 1)
+}
+
+#[test]
+fn problems_of_fleets_by_the_hour(rt: HostRuntime) -> Result<(), Fail> {
+    serve(&rt, rt.alloc(), BY_THE_HOUR, 1)
+}
+
+#[test]
+fn more_fleets_by_the_hour(rt: HostRuntime) -> Result<(), Fail> {
+    serve(&rt, rt.alloc(), BY_THE_HOUR + MANY, 1)
 }
 
 // Values of up to the most cargo.
