@@ -6,8 +6,7 @@ use Rattle.hw_model.specs.Limits.{IsFlat}
 use Rattle.hw_model.specs.Problem.{Problem}
 use Rattle.hw_model.specs.Timetables.{Permits, NonePermitted}
 use Rattle.hw_desk.specs.State.{DeskState}
-use Rattle.hw_plan_texts.specs.Fleets.{lessened}
-use Rattle.hw_repair.specs.Repaired.{repaired}
+use Rattle.hw_plan_texts.proofs.Fleets.{lessened_fits}
 use Rattle.hw_repair.specs.Wishes.{PlanParts, PlanFits}
 use Rattle.hw_repair.proofs.Repairs.{repaired_permits}
 use Rattle.hw_clash.specs.Parts.{part}
@@ -21,10 +20,6 @@ use Rattle.hw_subject.specs.declared.subject.Given.{Given}
 use Rattle.hw_subject.proofs.Modelled.{subjects_modelled_law}
 use Rattle.hw_command_clash.specs.Asked.{asked, asked_by}
 
--- by a plan under a name
-abbrev planned : Origin → List ℕ → Topic
-planned origin name = record { origin = origin; plan = Some name }
-
 -- ---- what was read
 
 pub is_asked : {s : Subject} {x y : DeskState} {given : Given} → (h : ReadsSubject s x y given) → asked_by given.flat (plan_in given.repair) ≡ asked s h.value
@@ -33,28 +28,14 @@ is_asked {s = s} {given = given} h =
 
 -- ---- limits
 
--- with the tugs that are left
-lessened_fits : (f : Problem) (plan : PlanParts) → IsFlat f → IsFlat (repaired f plan) → IsFlat (lessened plan.withdrawn f)
-lessened_fits f plan flat repaired = record {
-  some_ship = flat.some_ship;
-  few_ships = flat.few_ships;
-  some_slot = flat.some_slot;
-  few_slots = flat.few_slots;
-  each_value = flat.each_value;
-  last_value = flat.last_value;
-  small_values = flat.small_values;
-  few_rules = repaired.few_rules;
-  each_rule = repaired.each_rule;
-}
-
-planned_fits : (s : Subject) (name : List ℕ) (held : List ℕ → Option (List ℕ)) (v : Planned s) → ReadsPlanned s name held v → IsFlat (s.problem v.value) → IsFlat (repaired (s.problem v.value) v.plan) → IsWished (asked (repair_of s name) v)
-planned_fits s name held v reads flat repaired = record { limits = lessened_fits (s.problem v.value) v.plan flat repaired; few_wishes = omega (arith, reads.planned.fits.each_ship, flat.few_ships) }
+planned_fits : (s : Subject) (name : List ℕ) (held : List ℕ → Option (List ℕ)) (v : Planned s) → ReadsPlanned s name held v → IsFlat (s.problem v.value) → IsWished (asked (repair_of s name) v)
+planned_fits s name held v reads flat = record { limits = lessened_fits (s.problem v.value) v.plan.withdrawn flat; few_wishes = omega (arith, reads.planned.fits.each_ship, flat.few_ships) }
 
 fits_by : (origin : Origin) (plan : Option (List ℕ)) (held : List ℕ → Option (List ℕ)) (v : (repaired_by (origin_subject origin) plan).Value) → (repaired_by (origin_subject origin) plan).Reads held v → IsWished (asked (repaired_by (origin_subject origin) plan) v)
 fits_by (flat_text name) None held v reads = record { limits = (subjects_modelled_law (plainly (flat_text name)) held v reads).limits; few_wishes = omega arith }
 fits_by (port_of instance table) None held v reads = record { limits = (subjects_modelled_law (plainly (port_of instance table)) held v reads).limits; few_wishes = omega arith }
-fits_by (flat_text name) (Some plan) held v reads = planned_fits (flat_subject name) plan held v reads (subjects_modelled_law (plainly (flat_text name)) held v.value reads.reads).limits (subjects_modelled_law (planned (flat_text name) plan) held v reads).limits
-fits_by (port_of instance table) (Some plan) held v reads = planned_fits (port_subject instance table) plan held v reads (subjects_modelled_law (plainly (port_of instance table)) held v.value reads.reads).limits (subjects_modelled_law (planned (port_of instance table) plan) held v reads).limits
+fits_by (flat_text name) (Some plan) held v reads = planned_fits (flat_subject name) plan held v reads (subjects_modelled_law (plainly (flat_text name)) held v.value reads.reads).limits
+fits_by (port_of instance table) (Some plan) held v reads = planned_fits (port_subject instance table) plan held v reads (subjects_modelled_law (plainly (port_of instance table)) held v.value reads.reads).limits
 
 pub asked_fits : (topic : Topic) (held : List ℕ → Option (List ℕ)) (v : (topic_subject topic).Value) → (topic_subject topic).Reads held v → IsWished (asked (topic_subject topic) v)
 asked_fits topic held v reads = fits_by topic.origin topic.plan held v reads

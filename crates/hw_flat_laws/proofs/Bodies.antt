@@ -8,13 +8,13 @@ use Rattle.hw_model.specs.Problem.{Problem}
 use Rattle.hw_text.specs.Parts.{at_end}
 use Rattle.hw_flat.specs.declared.fault.FlatWord.{FlatWord}
 use Rattle.hw_flat.specs.declared.fault.FlatWord.TheVariants as words
-use Rattle.hw_flat.specs.Text.{Fault, fault, rows_at, rules_at, hours_needed, problem_of, closed, problem_of_lines}
+use Rattle.hw_flat.specs.Text.{Fault, fault, rows_at, rules_at, hours_needed, problem_of, finished, problem_of_lines}
 use Rattle.hw_flat.specs.TextForms.{header_form, size_form, row_form, rule_form, has_hours, any_hours}
 use Rattle.hw_flat.specs.TextWritten.{rule_text}
 use Rattle.hw_flat.proofs.HourRules.{RuleIn}
 use Rattle.hw_flat.proofs.TextRows.{text_read}
 use Rattle.hw_flat_laws.specs.FirstLines.{later_line, numbered_line}
-use Rattle.hw_flat_laws.specs.Wanted.{SaysSize, rule_at, IsWanted, OutOfRules}
+use Rattle.hw_flat_laws.specs.Wanted.{SaysSize, rule_on_line, IsWanted, OutOfRules}
 use Rattle.hw_flat_laws.proofs.Same.{Parts, Full, Same, full_after, full_is, full_some, has, after_next, after_front, drop_front}
 use Rattle.hw_flat_laws.proofs.Refusals.{Mend, Dead, Refused, followed, mend_past_lines, dead_followed, dead_past_lines, dead_line}
 use Rattle.hw_flat_laws.proofs.ShipLines.{Row, Ended, hour_rules, filled, is_err, not_both, ShipsRead, ships_refused, ships_read, ships_leave, last_ship}
@@ -209,7 +209,7 @@ found_line header size_line version size body x rules rest number i g place =
 
 -- where none of the rules needs hours, so say their lines
 found_plain : (header size_line : List ℕ) (version : Bool × Bool) (size : ℕ × ℕ) (body : Parts) (x : Row × Parts) (rules : List Rule) (rest : Parts) (line : ℕ) → Found header size_line version size body x rules rest → any_hours rules ≡ false → 3 + size.0 ≤ line → line < 3 + size.0 + length rules
-    → (rule : Rule) × (rule_at (header ∷ size_line ∷ body) version size.0 size.1 line ≡ Some rule) × (has_hours rule ≡ false)
+    → (rule : Rule) × (rule_on_line (header ∷ size_line ∷ body) version size.0 size.1 line ≡ Some rule) × (has_hours rule ≡ false)
 found_plain header size_line version size body x rules rest line g none from to =
     let i : ℕ = line - (3 + size.0) in
     let place : line ≡ 3 + size.0 + i = omega (arith, from) in
@@ -261,7 +261,7 @@ rules_bad header size_line version size body x e a b full h k =
     let some : suc i ≡ length f.front + r.count = omega (arith, f.each, small.some_ship) in
     let before : numbered_line (header ∷ size_line ∷ body) (e.number - 1) ≡ later_line i body = numbered header size_line body (e.number - 1) i (omega (arith, place, some)) full in
     let line : numbered_line (header ∷ size_line ∷ body) e.number ≡ later_line r.count x.1 = numbered header size_line body e.number (length f.front + r.count) place full ∙ ap (later_line (length f.front + r.count)) f.lines ∙ after_front r.count f.front x.1 left in
-    let rules : Dead (closing version size x.0) x.1 e r.count = dead_followed (rules_at (rule_form version.1 size.0 size.1) (3 + size.0) 4_000) (λ rules. closed version size x.0 rules.0 rules.1) x.1 e r.count r.dead in
+    let rules : Dead (closing version size x.0) x.1 e r.count = dead_followed (rules_at (rule_form version.1 size.0 size.1) (3 + size.0) 4_000) (λ rules. finished version size x.0 rules.0 rules.1) x.1 e r.count r.dead in
     record {
       count = length f.front + r.count;
       place = place;
@@ -273,7 +273,7 @@ rules_bad header size_line version size body x e a b full h k =
 
 -- `end` where no rule before it needs the hours that fleets have
 end_bad : (header size_line : List ℕ) (version : Bool × Bool) (size : ℕ × ℕ) (body : Parts) (x : Row × Parts) (y : List Rule × Parts) (e : Fault) → header_form header ≡ Some version → size_form size_line ≡ Some size → Full body → rows_at version.0 size.1 3 size.0 body ≡ Ok x
-    → rules_at (rule_form version.1 size.0 size.1) (3 + size.0) 4_000 x.1 ≡ Ok y → hours_needed version.1 y.0 ≡ false → closed version size x.0 y.0 y.1 ≡ Err e → BodyRefused header size_line version size body e
+    → rules_at (rule_form version.1 size.0 size.1) (3 + size.0) 4_000 x.1 ≡ Ok y → hours_needed version.1 y.0 ≡ false → finished version size x.0 y.0 y.1 ≡ Err e → BodyRefused header size_line version size body e
 end_bad header size_line version size body x y e a b full h k none t =
     let small = small_of size_line size b in
     let left = ships_leave version.0 size.1 3 size.0 body x full h in
@@ -288,15 +288,15 @@ end_bad header size_line version size body x y e a b full h k none t =
     let g : Found header size_line version size body x y.0 rest = record { small = small; said = said; full = full; ships = f; left = left; lines = lines; more = more; good = r.good; few = r.few } in
     let needs = not_needed version.1 y.0 none in
     let d : Fault = record { number = 3 + size.0 + length y.0; word = words.Rule } in
-    let bad : (others : Parts) → closed version size x.0 y.0 others ≡ Err d = λ others. rw none refl in
-    let same : d ≡ e = is_err (closed version size x.0 y.0 y.1) d e (bad y.1) t in
+    let bad : (others : Parts) → finished version size x.0 y.0 others ≡ Err d = λ others. rw none refl in
+    let same : d ≡ e = is_err (finished version size x.0 y.0 y.1) d e (bad y.1) t in
     let front : Parts = f.front ++ written in
     let written_count : length written ≡ length y.0 = length-map y.0 rule_text in
     let count : length front ≡ size.0 + length y.0 = omega (arith, length-append f.front written, f.each, written_count) in
     let body_is : body ≡ front ++ rest = f.lines ∙ ap (λ ps. f.front ++ ps) lines ∙ sym (append_assoc f.front written rest) in
-    let reads : (others : Parts) → Full others → body_at version size (front ++ codes "end" ∷ others) ≡ closed version size x.0 y.0 others = λ others full'.
+    let reads : (others : Parts) → Full others → body_at version size (front ++ codes "end" ∷ others) ≡ finished version size x.0 y.0 others = λ others full'.
     let one : body_at version size (f.front ++ (written ++ codes "end" ∷ others)) ≡ closing version size x.0 (written ++ codes "end" ∷ others) = rw (f.reads (written ++ codes "end" ∷ others) (full_after written (codes "end" ∷ others) (codes "end", others, refl))) refl in
-    let two : closing version size x.0 ((written ++ codes "end" ∷ []) ++ others) ≡ closed version size x.0 y.0 others = rw (r.reads others full') refl in
+    let two : closing version size x.0 ((written ++ codes "end" ∷ []) ++ others) ≡ finished version size x.0 y.0 others = rw (r.reads others full') refl in
     ap (body_at version size) (append_assoc f.front written (codes "end" ∷ others)) ∙ one ∙ ap (closing version size x.0) (sym (append_assoc written (codes "end" ∷ []) others)) ∙ two in
     let dead : Dead (λ others. body_at version size (front ++ others)) (codes "end" ∷ last.0 ∷ last.1) d 0 = dead_line (λ others. body_at version size (front ++ others)) (codes "end") last.0 last.1 d (λ p ps. reads (p ∷ ps) (p, ps, refl) ∙ bad (p ∷ ps)) in
     let dead_here : Dead (λ others. body_at version size (front ++ others)) rest d 0 = subst (λ (ps : Parts). Dead (λ others. body_at version size (front ++ others)) (codes "end" ∷ ps) d 0) (sym last.2) dead in
@@ -308,7 +308,7 @@ end_bad header size_line version size body x y e a b full h k none t =
     let at_last : length y.0 ≡ length written + 0 = omega (arith, written_count) in
     let ends : numbered_line (header ∷ size_line ∷ body) d.number ≡ Some (codes "end") =
     found_line header size_line version size body x y.0 rest d.number (length y.0) g refl ∙ ap (λ n. later_line n (written ++ rest)) at_last ∙ after_front 0 written rest more ∙ (rw last.2 refl) in
-    let plain : (line : ℕ) → 3 + size.0 ≤ line → line < d.number → IfSome (rule_at (header ∷ size_line ∷ body) version size.0 size.1 line) (λ rule. has_hours rule ≡ false) = λ line from to.
+    let plain : (line : ℕ) → 3 + size.0 ≤ line → line < d.number → IfSome (rule_on_line (header ∷ size_line ∷ body) version size.0 size.1 line) (λ rule. has_hours rule ≡ false) = λ line from to.
     let p = found_plain header size_line version size body x y.0 rest line g needs.1 from to in
     subst (λ o. IfSome o (λ rule. has_hours rule ≡ false)) (sym p.1) p.2 in
     subst (BodyRefused header size_line version size body) same (record {
@@ -379,12 +379,12 @@ body_refused header size_line version size body e a b full h =
     elim (split (rows_at version.0 size.1 3 size.0 body) (λ rows. closing version size rows.0 rows.1) e h) [
       | inl bad ↦ ships_bad header size_line version size body e a b full bad
       | inr s ↦
-          elim (split (rules_at (rule_form version.1 size.0 size.1) (3 + size.0) 4_000 s.0.1) (λ rules. closed version size s.0.0 rules.0 rules.1) e s.2) [
+          elim (split (rules_at (rule_form version.1 size.0 size.1) (3 + size.0) 4_000 s.0.1) (λ rules. finished version size s.0.0 rules.0 rules.1) e s.2) [
             | inl bad ↦ rules_bad header size_line version size body s.0 e a b full s.1 bad
             | inr t ↦
                 elim (hours_needed version.1 t.0.0) as (λ n. hours_needed version.1 t.0.0 ≡ n → BodyRefused header size_line version size body e) [
                   | true ↦ λ needed.
-                      let good : closed version size s.0.0 t.0.0 t.0.1 ≡ tail_at version.0 size s.0.0 t.0.0 t.0.1 = rw needed refl in
+                      let good : finished version size s.0.0 t.0.0 t.0.1 ≡ tail_at version.0 size s.0.0 t.0.0 t.0.1 = rw needed refl in
                       tail_bad header size_line version size body s.0 t.0 e a b full s.1 t.1 needed (sym good ∙ t.2)
                   | false ↦ λ none. end_bad header size_line version size body s.0 t.0 e a b full s.1 t.1 none t.2
                 ] refl

@@ -8,7 +8,7 @@ use Rattle.hw_model.specs.declared.rule.Rule.{Rule}
 use Rattle.hw_model.specs.declared.rule.Step.{Step}
 use Rattle.hw_model.specs.Limits.{JobFits, StepFits}
 use Rattle.hw_model.specs.Problem.{Problem}
-use Rattle.hw_flat.specs.Text.{Fault, rules_at, hours_needed, problem_of, closed}
+use Rattle.hw_flat.specs.Text.{Fault, rules_at, hours_needed, problem_of, finished}
 use Rattle.hw_flat.specs.TextForms.{rule_form, has_hours, any_hours}
 use Rattle.hw_flat.specs.TextWritten.{rule_text}
 use Rattle.hw_flat.proofs.HourRules.{RuleIn}
@@ -31,7 +31,7 @@ pub record Small (size : ℕ × ℕ) : Type 0 where
 
 -- the rules and what follows them
 abbrev pub closing : Bool × Bool → ℕ × ℕ → Row → Parts → Result Problem Fault
-closing version size values parts = rules_at (rule_form version.1 size.0 size.1) (3 + size.0) 4_000 parts >>= λ rules. closed version size values rules.0 rules.1
+closing version size values parts = rules_at (rule_form version.1 size.0 size.1) (3 + size.0) 4_000 parts >>= λ rules. finished version size values rules.0 rules.1
 
 -- ---- the least rule that needs hours
 
@@ -72,8 +72,8 @@ rules_end version size rules small each count = rules_back version.1 size.0 size
 
 ends_well : (version : Bool × Bool) (size : ℕ × ℕ) (values : Row) (rules : List Rule) → Small size → All (RuleIn version.1 size.0 size.1) rules → length rules ≤ 4_000 → hours_needed version.1 rules ≡ true → closing version size values (ending rules) ≡ Ok (problem_of version.0 size values rules)
 ends_well version size values rules small each count needed =
-    let after : List Rule × Parts → Result Problem Fault = λ x. closed version size values x.0 x.1 in
-    let last : closed version size values rules ([] ∷ []) ≡ Ok (problem_of version.0 size values rules) = rw needed refl in
+    let after : List Rule × Parts → Result Problem Fault = λ x. finished version size values x.0 x.1 in
+    let last : finished version size values rules ([] ∷ []) ≡ Ok (problem_of version.0 size values rules) = rw needed refl in
     ap (λ (r : Result (List Rule × Parts) Fault). r >>= after) (rules_end version size rules small each count) ∙ last
 
 pub closed_here : (version : Bool × Bool) (size : ℕ × ℕ) (values : Row) → Small size → closing version size values (ending (hour_rules version.1)) ≡ Ok (problem_of version.0 size values (hour_rules version.1))

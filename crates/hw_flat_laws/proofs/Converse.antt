@@ -11,7 +11,7 @@ use Rattle.hw_flat.specs.TextForms.{header_form, size_form, row_form, rule_form,
 use Rattle.hw_flat.specs.TextWritten.{problem_text}
 use Rattle.hw_flat.proofs.TextBack.{text_reads_back}
 use Rattle.hw_flat_laws.specs.FirstLines.{later_line, numbered_line}
-use Rattle.hw_flat_laws.specs.Wanted.{SaysSize, rule_at, IsWanted, OutOfRules}
+use Rattle.hw_flat_laws.specs.Wanted.{SaysSize, rule_on_line, IsWanted, OutOfRules}
 use Rattle.hw_flat_laws.specs.Laws.{TextGoesOn, IsRefused, WantedRefuses}
 use Rattle.hw_flat_laws.proofs.Same.{Parts, Same, same_from, same_takes, has}
 use Rattle.hw_flat_laws.proofs.ShipLines.{not_both}
@@ -114,17 +114,17 @@ rules_want_nothing parts number words.Values o w =
     omega (arith, w.before_rules, o.past_rules, same.1)
 rules_want_nothing parts number words.Rule o w =
     let same = same_said parts o.version w.version o.ships w.ships o.slots w.slots o.said w.said in
-    let none : rule_at parts w.version w.ships w.slots number ≡ None = elim w.wrong [
+    let none : rule_on_line parts w.version w.ships w.slots number ≡ None = elim w.wrong [
       | inl n ↦ n.wrong
       | inr n ↦ ap (has (rule_form w.version.1 w.ships w.slots)) n.end ∙ end_no_rule w.version.1 w.ships w.slots
     ] in
-    let here : rule_at parts o.version o.ships o.slots number ≡ None = (rw (same.0, same.1, same.2) refl) ∙ none in
+    let here : rule_on_line parts o.version o.ships o.slots number ≡ None = (rw (same.0, same.1, same.2) refl) ∙ none in
     subst (λ r. IsSomeAnd r (λ rule. has_hours rule ≡ false)) here (o.plain number (omega (arith, o.past_rules)) (omega arith))
 rules_want_nothing parts number words.Many o w =
     let same = same_said parts o.version w.version o.ships w.ships o.slots w.slots o.said w.said in
     omega (arith, w.past_rules, o.past_rules, same.1)
 rules_want_nothing parts number words.Tail o w =
-    let here : rule_at parts o.version o.ships o.slots (number - 1) ≡ None = ap (has (rule_form o.version.1 o.ships o.slots)) w.end ∙ end_no_rule o.version.1 o.ships o.slots in
+    let here : rule_on_line parts o.version o.ships o.slots (number - 1) ≡ None = ap (has (rule_form o.version.1 o.ships o.slots)) w.end ∙ end_no_rule o.version.1 o.ships o.slots in
     subst (λ r. IsSomeAnd r (λ rule. has_hours rule ≡ false)) here (o.plain (number - 1) (omega (arith, o.past_rules)) (omega (arith, o.past_rules)))
 
 pub wanted_refuses_law : WantedRefuses

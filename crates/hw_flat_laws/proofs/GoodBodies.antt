@@ -8,12 +8,12 @@ use Rattle.hw_model.specs.declared.rule.Rule.{Rule}
 use Rattle.hw_model.specs.Problem.{Problem}
 use Rattle.hw_flat.specs.declared.fault.FlatWord.{FlatWord}
 use Rattle.hw_flat.specs.declared.fault.FlatWord.TheVariants as words
-use Rattle.hw_flat.specs.Text.{fault, rows_at, rules_at, hours_needed, closed, problem_of_lines}
+use Rattle.hw_flat.specs.Text.{fault, rows_at, rules_at, hours_needed, finished, problem_of_lines}
 use Rattle.hw_flat.specs.TextForms.{header_form, size_form, row_form, rule_form, has_hours, any_hours}
 use Rattle.hw_flat.specs.TextWritten.{rule_text}
 use Rattle.hw_flat.proofs.TextRows.{text_read, step}
 use Rattle.hw_flat_laws.specs.FirstLines.{later_line, numbered_line}
-use Rattle.hw_flat_laws.specs.Wanted.{SaysSize, rule_at, IsWanted}
+use Rattle.hw_flat_laws.specs.Wanted.{SaysSize, rule_on_line, IsWanted}
 use Rattle.hw_flat_laws.proofs.Same.{Parts, Full, full_after, has, after_front, drop_front}
 use Rattle.hw_flat_laws.proofs.ShipLines.{Row, hour_rule, not_both, ships_read, ships_leave, each_ship}
 use Rattle.hw_flat_laws.proofs.RuleLines.{rules_were_read, rules_leave, each_rule}
@@ -27,15 +27,15 @@ nothing_left ([] ∷ p ∷ parts) h = absurd cc
 nothing_left ((b ∷ p) ∷ parts) h = absurd cc
 
 -- a rule needs the hours that fleets have, and nothing is left
-closed_read : (version : Bool × Bool) (size : ℕ × ℕ) (values : Row) (rules : List Rule) (parts : Parts) (f : Problem) → closed version size values rules parts ≡ Ok f → (hours_needed version.1 rules ≡ true) × (at_end parts ≡ true)
-closed_read version size values rules parts f h =
+finished_read : (version : Bool × Bool) (size : ℕ × ℕ) (values : Row) (rules : List Rule) (parts : Parts) (f : Problem) → finished version size values rules parts ≡ Ok f → (hours_needed version.1 rules ≡ true) × (at_end parts ≡ true)
+finished_read version size values rules parts f h =
     elim (hours_needed version.1 rules) as (λ n. hours_needed version.1 rules ≡ n → (hours_needed version.1 rules ≡ true) × (at_end parts ≡ true)) [
       | true ↦ λ needed.
           elim (at_end parts) as (λ t. at_end parts ≡ t → (hours_needed version.1 rules ≡ true) × (at_end parts ≡ true)) [
             | true ↦ λ ended. (needed, ended)
-            | false ↦ λ more. let bad : closed version size values rules parts ≡ fault (4 + size.0 + length rules) words.Tail = rw (needed, more) refl in absurd (not_both (closed version size values rules parts) f _ h bad)
+            | false ↦ λ more. let bad : finished version size values rules parts ≡ fault (4 + size.0 + length rules) words.Tail = rw (needed, more) refl in absurd (not_both (finished version size values rules parts) f _ h bad)
           ] refl
-      | false ↦ λ none. let bad : closed version size values rules parts ≡ fault (3 + size.0 + length rules) words.Rule = rw none refl in absurd (not_both (closed version size values rules parts) f _ h bad)
+      | false ↦ λ none. let bad : finished version size values rules parts ≡ fault (3 + size.0 + length rules) words.Rule = rw none refl in absurd (not_both (finished version size values rules parts) f _ h bad)
     ] refl
 
 -- a body that reads, line by line
@@ -55,14 +55,14 @@ body_reads : (version : Bool × Bool) (size : ℕ × ℕ) (body : Parts) (f : Pr
 body_reads version size body f small full h =
     let form : List ℕ → Option Rule = rule_form version.1 size.0 size.1 in
     let s = step (rows_at version.0 size.1 3 size.0 body) (λ rows. closing version size rows.0 rows.1) f h in
-    let t = step (rules_at form (3 + size.0) 4_000 s.0.1) (λ rules. closed version size s.0.0 rules.0 rules.1) f s.2 in
+    let t = step (rules_at form (3 + size.0) 4_000 s.0.1) (λ rules. finished version size s.0.0 rules.0 rules.1) f s.2 in
     let rest : Parts = s.0.1 in
     let rules : List Rule = t.0.0 in
     let a = ships_read version.0 size.1 3 size.0 body s.0 s.1 in
     let b = rules_were_read version.1 size.0 size.1 (3 + size.0) 4_000 rest t.0 small.few_ships small.few_slots t.1 in
     let left = ships_leave version.0 size.1 3 size.0 body s.0 full s.1 in
     let last = rules_leave form (3 + size.0) 4_000 rest t.0 t.1 in
-    let finish = closed_read version size s.0.0 rules t.0.1 f t.2 in
+    let finish = finished_read version size s.0.0 rules t.0.1 f t.2 in
     let no_more : t.0.1 ≡ [] ∷ [] = nothing_left t.0.1 finish.1 in
     let written : Parts = map rule_text rules in
     let written_count : length written ≡ length rules = length-map rules rule_text in
@@ -153,7 +153,7 @@ wants_nothing header size_line body f number words.Rule full h within w =
       ]
       | inr (inl below) ↦
           let is = ap (has (rule_form w.version.1 w.ships w.slots)) line ∙ r.rule_lines i hour_rule below in
-          let none : rule_at (header ∷ size_line ∷ body) w.version w.ships w.slots number ≡ None = elim w.wrong [
+          let none : rule_on_line (header ∷ size_line ∷ body) w.version w.ships w.slots number ≡ None = elim w.wrong [
             | inl n ↦ n.wrong
             | inr n ↦ ap (has (rule_form w.version.1 w.ships w.slots)) n.end ∙ end_no_rule w.version.1 w.ships w.slots
           ] in
@@ -169,7 +169,7 @@ wants_nothing header size_line body f number words.Many full h within w =
     elim (cases_order 4_000 (length r.rules)) [
       | inl same ↦
           let ends : numbered_line (header ∷ size_line ∷ body) number ≡ Some (codes "end") = line ∙ ap (λ n. later_line n r.rest) same ∙ r.end in
-          let none : rule_at (header ∷ size_line ∷ body) w.version w.ships w.slots number ≡ None = ap (has (rule_form w.version.1 w.ships w.slots)) ends ∙ end_no_rule w.version.1 w.ships w.slots in
+          let none : rule_on_line (header ∷ size_line ∷ body) w.version w.ships w.slots number ≡ None = ap (has (rule_form w.version.1 w.ships w.slots)) ends ∙ end_no_rule w.version.1 w.ships w.slots in
           apart w.rule (sym none ∙ w.one_more)
       | inr (inl below) ↦ absurd (omega (arith, below, r.few))
       | inr (inr above) ↦

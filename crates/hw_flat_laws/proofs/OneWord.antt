@@ -3,7 +3,7 @@ use Rattle.std.proofs.Common.{◌≡◌, ℕ, Bool, inl, inr, Some, None, refl, 
 use Rattle.hw_flat.specs.declared.fault.FlatWord.{FlatWord}
 use Rattle.hw_flat.specs.declared.fault.FlatWord.TheVariants as words
 use Rattle.hw_flat.specs.TextForms.{rule_form}
-use Rattle.hw_flat_laws.specs.Wanted.{SaysSize, rule_at, WantsValues, WantsRule, WantsEnd, WantsNoMore, IsWanted}
+use Rattle.hw_flat_laws.specs.Wanted.{SaysSize, rule_on_line, WantsValues, WantsRule, WantsEnd, WantsNoMore, IsWanted}
 use Rattle.hw_flat_laws.proofs.Same.{Parts, has}
 use Rattle.hw_flat_laws.proofs.Closings.{end_no_rule}
 
@@ -33,7 +33,7 @@ same_said parts s t ships others slots more b c =
 rule_end : (parts : Parts) (number : ℕ) → WantsRule parts number → WantsEnd parts number → ⊥
 rule_end parts number a b =
     let same = same_said parts a.version b.version a.ships b.ships a.slots b.slots a.said b.said in
-    let none : rule_at parts a.version a.ships a.slots number ≡ None = elim a.wrong [
+    let none : rule_on_line parts a.version a.ships a.slots number ≡ None = elim a.wrong [
       | inl n ↦ n.wrong
       | inr n ↦ ap (has (rule_form a.version.1 a.ships a.slots)) n.end ∙ end_no_rule a.version.1 a.ships a.slots
     ] in

@@ -19,8 +19,8 @@ pub record TextGoesOn (count : ℕ) (bytes : List ℕ) : Type 0 where
 
 -- the lines before begin a text that reads; or they have no room for the rule with hours that is still wanted, and all but the last
 -- of them do
-abbrev pub LinesGoOn : List ℕ → ℕ → Type 0
-LinesGoOn bytes number = TextGoesOn (number - 1) bytes ⊎ (OutOfRules (parts_of 10 bytes) number × TextGoesOn (number - 2) bytes)
+abbrev pub LinesBefore : List ℕ → ℕ → Type 0
+LinesBefore bytes number = TextGoesOn (number - 1) bytes ⊎ (OutOfRules (parts_of 10 bytes) number × TextGoesOn (number - 2) bytes)
 
 -- the text is refused at this line, with this word
 abbrev pub IsRefused : List ℕ → ℕ → FlatWord → Type 0
@@ -30,7 +30,7 @@ IsRefused bytes number word = flat_text bytes ≡ fault number word
 -- tells the word
 pub record BadFlatLine (bytes : List ℕ) (number : ℕ) (word : FlatWord) : Type 0 where
   pub counted : 1 ≤ number
-  pub begins : LinesGoOn bytes number
+  pub begins : LinesBefore bytes number
   pub dead_end : (others : List ℕ) → SameLines number bytes others → IsRefused others number word
   pub cut_off : word ≢ words.Tail → part_count bytes ≡ number → (others : List ℕ) → SameLines (number - 1) bytes others → part_count others ≡ number → IsRefused others number word
   pub told : IsWanted (parts_of 10 bytes) number word

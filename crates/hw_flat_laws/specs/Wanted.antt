@@ -34,19 +34,19 @@ pub record WantsValues (parts : List (List ℕ)) (number : ℕ) : Type 0 where
   pub wrong : (numbered_line parts number and_then row_form version.0 slots) ≡ None
 
 -- the line of this number, by the form of rules
-abbrev pub rule_at : List (List ℕ) → Bool × Bool → ℕ → ℕ → ℕ → Option Rule
-rule_at parts version ships slots number = numbered_line parts number and_then rule_form version.1 ships slots
+abbrev pub rule_on_line : List (List ℕ) → Bool × Bool → ℕ → ℕ → ℕ → Option Rule
+rule_on_line parts version ships slots number = numbered_line parts number and_then rule_form version.1 ships slots
 
 -- the line is neither a rule nor `end`
 pub record NeitherRuleNorEnd (parts : List (List ℕ)) (version : Bool × Bool) (ships slots number : ℕ) : Type 0 where
   pub no_end : numbered_line parts number ≢ Some (codes "end")
-  pub wrong : rule_at parts version ships slots number ≡ None
+  pub wrong : rule_on_line parts version ships slots number ≡ None
 
 -- the line is `end`, and no rule before it needs the hours that fleets have
 pub record EndsWithoutHours (parts : List (List ℕ)) (version : Bool × Bool) (ships slots number : ℕ) : Type 0 where
   pub hours : version.1 ≡ true
   pub end : numbered_line parts number ≡ Some (codes "end")
-  pub plain : (line : ℕ) → 3 + ships ≤ line → line < number → IfSome (rule_at parts version ships slots line) (λ rule. has_hours rule ≡ false)
+  pub plain : (line : ℕ) → 3 + ships ≤ line → line < number → IfSome (rule_on_line parts version ships slots line) (λ rule. has_hours rule ≡ false)
 
 -- a line after the ships' lines that is neither a rule nor an `end` that may stand there
 pub record WantsRule (parts : List (List ℕ)) (number : ℕ) : Type 0 where
@@ -68,7 +68,7 @@ pub record WantsEnd (parts : List (List ℕ)) (number : ℕ) : Type 0 where
   pub past_rules : number ≡ 3 + ships + MOST_RULES
   pub no_end_before : numbered_line parts (number - 1) ≢ Some (codes "end")
   pub rule : Rule
-  pub one_more : rule_at parts version ships slots number ≡ Some rule
+  pub one_more : rule_on_line parts version ships slots number ≡ Some rule
 
 -- the line before is `end`, and something follows it
 pub record WantsNoMore (parts : List (List ℕ)) (number : ℕ) : Type 0 where
@@ -98,4 +98,4 @@ pub record OutOfRules (parts : List (List ℕ)) (number : ℕ) : Type 0 where
   pub said : SaysSize parts version ships slots
   pub hours : version.1 ≡ true
   pub past_rules : number ≡ 3 + ships + MOST_RULES
-  pub plain : (line : ℕ) → 3 + ships ≤ line → line < number → IsSomeAnd (rule_at parts version ships slots line) (λ rule. has_hours rule ≡ false)
+  pub plain : (line : ℕ) → 3 + ships ≤ line → line < number → IsSomeAnd (rule_on_line parts version ships slots line) (λ rule. has_hours rule ≡ false)
