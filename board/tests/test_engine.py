@@ -16,7 +16,7 @@ from tidewise_board.core import days, facts, pins, reading
 from tidewise_board.core.progress import Follower, whole_lines
 from tidewise_board.core.program import Failed, Program, Text, digest_of
 from tidewise_board.core.runs import Inputs, Runs, start_of
-from tidewise_board.core.shown import cost, costs_words, headline, shown
+from tidewise_board.core.shown import build_words, cost, costs_words, headline, shown, warning_words
 from tidewise_board.core.store import Damaged, Store
 from tidewise_board.core.wishes import Wish
 
@@ -64,6 +64,20 @@ def test_only_a_proved_program_proves() -> None:
     assert headline(said, True) == "Proved best: 1.0 t"
     assert "Proved" not in headline(said, False)
     assert headline(reading.verdict_of("unfinished 1.0\n"), True) == "Not proved best: 1.0 t"
+
+
+@pytest.mark.parametrize("version, good", [("tidewise 1.0.0 unproved c47e5be0", False), ("tidewise 1.0.0 UNPROVED", False),
+                                           ("tidewise 1.0.0 proved c47e5be0", True), ("tidewise 1.0.0", True)])
+def test_what_a_program_says_of_itself(store: Store, tmp_path: object, version: str, good: bool) -> None:
+    """One that calls itself unproved isn't trusted, whatever its operator named; nor is any that nobody named."""
+    path = os.path.join(str(tmp_path), "tidewise")
+    with open(path, "w", encoding="utf-8") as file:
+        file.write(f"#!/bin/sh\necho {version}\n")
+    os.chmod(path, 0o700)
+    named, other = Program(path, store, [digest_of(path)]), Program(path, store)
+    assert named.trusted == good and not other.trusted and other.unproved != good
+    assert build_words(named) == f"{version}, {'proved' if good else 'an unproved build'}"
+    assert ("without its proof" in warning_words(other)) != good
 
 
 def test_a_day_is_planned(runs: Runs, contested: Inputs) -> None:
