@@ -1,7 +1,6 @@
 -- Where things stand on a picture.
 use Rattle.std.specs.Prelude.{ℕ, ◌+◌, ◌-◌, ◌*◌, ◌/◌, ◌%◌, Bool, ◌&&◌, ◌||◌, nat_eq, nat_lt, if◌then◌else◌, List, [], ◌∷◌, codes, decimal, count_by, slice_index}
-use Rattle.std.specs.List.{enumerate_from}
-use Rattle.hw_chart_svg.specs.Joined.{joined}
+use Rattle.std.specs.List.{enumerate_from, concat}
 use Rattle.hw_chart_svg.specs.Shapes.{block, shape}
 use Rattle.hw_chart_svg.specs.declared.sheet.Window.{Window}
 
@@ -27,4 +26,4 @@ plot_place part whole = 172 + part * 720 / whole
 
 -- a wedge above the middle of a slot
 abbrev pub pin : List ℕ → ℕ → ℕ → ℕ → List ℕ
-pin class slot span y = shape class (joined (codes "M" ∷ decimal (plot_place (2 * slot + 1) (2 * span) - 4) ∷ codes " " ∷ decimal (y - 1) ∷ codes "h9l-4 6z" ∷ []))
+pin class slot span y = shape class (concat (codes "M" ∷ decimal (plot_place (2 * slot + 1) (2 * span) - 4) ∷ codes " " ∷ decimal (y - 1) ∷ codes "h9l-4 6z" ∷ []))

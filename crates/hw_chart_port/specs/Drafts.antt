@@ -1,7 +1,7 @@
 -- The window of a ship: in which slots it may sail, with which draft, and where it might move.
 use Rattle.std.specs.Prelude.{ℕ, ◌+◌, ℤ, ◌-ℤ◌, Option, Some, None, is_some, List, [], ◌∷◌, codes, if◌then◌else◌, unsigned_abs}
 use Rattle.std.specs.Ordering.{int_eq}
-use Rattle.hw_chart_svg.specs.Joined.{joined}
+use Rattle.std.specs.List.{concat}
 use Rattle.hw_chart_svg.specs.Sheets.{svg_end}
 use Rattle.hw_port.specs.Parts.{ShipParts}
 use Rattle.hw_port_model.specs.Numbers.{whole, horizon_of, is_outgoing}
@@ -57,7 +57,7 @@ sailing_where chart v s window Stays = []
 sailing_where chart v s window (Sails slot) = sailing_in chart v s window slot
 
 abbrev pub drafts_text : ChartParts → ℕ → ShipParts → Sailings → Course → List ℕ
-drafts_text chart v s window course = joined (sailings_begin window ∷ draft_steps chart v s window ∷ full_steps chart v s window ∷ sailing_where chart v s window course ∷ svg_end ∷ [])
+drafts_text chart v s window course = concat (sailings_begin window ∷ draft_steps chart v s window ∷ full_steps chart v s window ∷ sailing_where chart v s window course ∷ svg_end ∷ [])
 
 -- the top of a window one unit tall where the ship alone could move, and otherwise its foot
 abbrev pub open_level : ChartParts → ℕ → ℕ → ℕ

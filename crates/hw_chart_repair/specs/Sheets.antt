@@ -1,7 +1,7 @@
 -- The marks of all ships, each at its row, and the end of a picture.
 use Rattle.std.specs.Prelude.{ℕ, ◌+◌, ◌*◌, List, [], ◌∷◌, ◌++◌, Option, Some, None, option_and_then, slice_get, unwrap_or}
+use Rattle.std.specs.List.{concat}
 use Rattle.hw_model.specs.Problem.{Problem}
-use Rattle.hw_chart_svg.specs.Joined.{joined}
 use Rattle.hw_chart_svg.specs.Sheets.{svg_end}
 use Rattle.hw_chart.specs.Layout.{rank_of}
 use Rattle.hw_repair.specs.Wishes.{wished}
@@ -36,4 +36,4 @@ wish_marks_from f sheet table ship (wish ∷ more) = mark_for_wish f sheet table
 
 -- the marks, and the end of the picture
 unfoldable pub marked_end : Problem → Sheet → Option (List ℕ) → List Wish → List ℕ
-marked_end f sheet table wishes = joined (wish_marks_from f sheet table 0 wishes ∷ svg_end ∷ [])
+marked_end f sheet table wishes = concat (wish_marks_from f sheet table 0 wishes ∷ svg_end ∷ [])

@@ -1,7 +1,8 @@
 //! The text of a date and a time.
 
 ghost use Rattle.std.specs.Prelude.{◌≡◌, ◌≤◌, ◌<◌, ◌+◌, length};
-ghost use Rattle.hw_port.specs.Starts.{is_leap as leap, days_of_month as month_days, is_day as day_there, is_digit as digit, are_digits as digits_at, pair_at, year_of, has_digits as digits_in, has_marks as marks_in, is_start as starts};
+ghost use Rattle.hw_text.specs.Numbers.{is_digit as digit};
+ghost use Rattle.hw_port.specs.Starts.{is_leap as leap, days_of_month as month_days, is_day as day_there, are_digits as digits_at, pair_at, year_of, has_digits as digits_in, has_marks as marks_in, is_start as starts};
 
 fn is_leap(year: u32) -> bool
     ensures { result ≡ leap year }

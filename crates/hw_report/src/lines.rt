@@ -1,12 +1,13 @@
 //! The lines of reports.
 
 ghost use Rattle.std.specs.Prelude.{◌≡◌, ◌≤◌, ◌<◌, ◌*◌, ◌∷◌, [], length, pos, unwrap_or, false, nat_le, codes};
+ghost use Rattle.std.specs.List.{concat};
 ghost use Rattle.hw_model.specs.Problem.{IsTimetable};
 ghost use Rattle.hw_port.specs.Kept.{Within};
 ghost use Rattle.hw_port_model.specs.Drafts.{sailing as sailing_draft};
 ghost use Rattle.hw_port_model.specs.Numbers.{whole, horizon_of};
 ghost use Rattle.hw_report.specs.Lines.{numbered, cargo_line, cargo_text, so_far, unfinished_text, head_text, bound_text, moved_line, number_line, name_in, sail_line, sailing_line, named_ship_line, ship_line, ship_lines, table_text};
-ghost use Rattle.hw_report.specs.Pieces.{piece_text, joined};
+ghost use Rattle.hw_report.specs.Pieces.{piece_text};
 ghost use Rattle.hw_report.specs.Printing.{AreNamesOf, IsTableOfProblem};
 ghost use Rattle.hw_desk.specs.Writers.{Puts};
 ghost use Rattle.hw_report.specs.Seen.{names_seen, table_seen};
@@ -202,7 +203,7 @@ fn stays(port: &Port, slot: Slot) -> bool
 /// Puts the line of a ship that stays.
 fn put_stay<W: Writer>(out: &mut W, ships: &[Ship], ship: ShipId)
     requires { ship < length ships.now }
-    ensures { Puts (joined (codes "stay " ∷ name_in ships.now ship ∷ codes "\n" ∷ [])) (W.state out.old) (W.state out.new) }
+    ensures { Puts (concat (codes "stay " ∷ name_in ships.now ship ∷ codes "\n" ∷ [])) (W.state out.old) (W.state out.new) }
 {
     put_pieces(
         out,

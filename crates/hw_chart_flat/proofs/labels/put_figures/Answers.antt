@@ -1,7 +1,7 @@
 use Rattle.std.proofs.Common.{◌≡◌, ◌+◌, ◌++◌, ◌∷◌, ℕ, Bool, List, true, false, cond, codes, decimal, nat_lt, [], append-nil, ap}
 use Rattle.std.proofs.lemmas.Bool.{le-ltb, lt-ltb}
 use Rattle.hw_desk.proofs.Written.{puts_on, puts_same}
-use Rattle.hw_chart_svg.specs.Joined.{joined}
+use Rattle.std.specs.List.{concat}
 use Rattle.hw_chart_svg.specs.Lettering.{line}
 use Rattle.hw_chart_flat.specs.Rows.{flat_figures, row_top}
 use Rattle.hw_chart_flat.specs.Values.{cargo_in_slot, most_carried}
@@ -17,7 +17,7 @@ returns-then-top-gt0 g c =
     let slot = rw (c.from-y.ensures, y, c.from.ensures, append-nil (decimal c.args.slot)) at c.put_line.ensures in
     let value = rw (c.from-y.ensures, y, c.carried-value.ensures, append-nil (decimal cargo)) at c.put_line-then-top-gt0.ensures in
     let of_most = rw (c.from-y.ensures, y, c.most-top.ensures) at c.put_line-then-top-gt0-2.ensures in
-    let says : List ℕ = line (codes "r b") 1268 (row_top c.args.row + 17) (decimal cargo) ++ line (codes "r m") 1268 (row_top c.args.row + 33) (joined (codes "of " ∷ decimal most ∷ [])) in
+    let says : List ℕ = line (codes "r b") 1268 (row_top c.args.row + 17) (decimal cargo) ++ line (codes "r m") 1268 (row_top c.args.row + 33) (concat (codes "of " ∷ decimal most ∷ [])) in
     puts_on slot (puts_same _ (ap (λ (b : Bool). cond b says []) some) (puts_on value of_most))
 
 pub returns-else-top-gt0 : goal.returns-else-top-gt0
@@ -28,5 +28,5 @@ returns-else-top-gt0 g c =
     let cargo = cargo_in_slot c.args.flat.now c.args.row.ship c.args.slot in
     let none : nat_lt 0 most ≡ false = le-ltb 0 _ (rw c.most-top.ensures at c.if-top-gt0.false) in
     let slot = rw (c.from-y.ensures, y, c.from.ensures, append-nil (decimal c.args.slot)) at c.put_line.ensures in
-    let says : List ℕ = line (codes "r b") 1268 (row_top c.args.row + 17) (decimal cargo) ++ line (codes "r m") 1268 (row_top c.args.row + 33) (joined (codes "of " ∷ decimal most ∷ [])) in
+    let says : List ℕ = line (codes "r b") 1268 (row_top c.args.row + 17) (decimal cargo) ++ line (codes "r m") 1268 (row_top c.args.row + 33) (concat (codes "of " ∷ decimal most ∷ [])) in
     puts_on slot (puts_same _ (ap (λ (b : Bool). cond b says []) none) c.put.ensures.puts)
