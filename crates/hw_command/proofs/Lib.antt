@@ -10,7 +10,6 @@ pub mod Kept
 pub mod Taken
 pub mod Sendings
 pub mod OnProof
-mod Thirds
 pub mod Started
 pub mod SentWorks
 pub mod PortForms

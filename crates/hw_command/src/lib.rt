@@ -15,7 +15,6 @@ mod sending;
 mod starting;
 mod status;
 mod taking;
-mod third;
 
 pub use cert::{ReadCert, check_report, read_cert};
 pub use ending::Ending;
@@ -27,4 +26,3 @@ pub use sending::send_lines;
 pub use starting::read_start;
 pub use status::{Status, status_of, status_of_verdict};
 pub use taking::{LastTable, LineTaker};
-pub use third::send_third;

@@ -23,7 +23,7 @@ use crate::checking::reading_report;
 use hw_cert::{Line, Version};
 use hw_check::renewed;
 use hw_command::{
-    CertOutcome, CertStop, ReadCert, Status, finish, finish_with, read_cert, send_lines, send_third,
+    CertOutcome, CertStop, ReadCert, Status, finish, finish_with, read_cert, send_lines,
 };
 use hw_desk::{Desk, DeskFailed};
 use hw_flat::Flat;
@@ -109,10 +109,17 @@ fn send_renewed<D: Desk>(desk: &mut D, lines: &[Line], proof: &str) -> Result<()
     requires unmade { ((D.state desk.old).trays Proof).made ≡ false }
     ensures { SendsTo proof.now (cert_text (version_for lines.now) lines.now) (D.state desk.old) (D.state desk.new) result }
 {
+    send_lines(desk, version_for(lines), lines, proof)
+}
+
+/// The version in which lines are written again: the second one, unless some speak of tolls or prices.
+fn version_for(lines: &[Line]) -> Version
+    ensures { result ≡ version_for lines.now }
+{
     if are_plain(lines) {
-        send_lines(desk, lines, proof)
+        Version::Two
     } else {
-        send_third(desk, lines, proof)
+        Version::Three
     }
 }
 

@@ -15,8 +15,8 @@ returns-in-Err-resume g c =
       told = c.stop_outcome.ensures;
     })
 
-pub returns-in-Ok-send_third : goal.returns-in-Ok-send_third
-returns-in-Ok-send_third g c = sent_on c.in-Ok.start c.in-Ok-resume.resumed _ c.in-Ok.ensures c.resumed_found.ensures c.in-Ok-resume.ensures (rw c.deref.ensures.value at c.in-Ok-send_third.ensures)
+pub returns-in-Ok-send_lines : goal.returns-in-Ok-send_lines
+returns-in-Ok-send_lines g c = sent_on c.in-Ok.start c.in-Ok-resume.resumed _ c.in-Ok.ensures c.resumed_found.ensures c.in-Ok-resume.ensures (rw c.deref.ensures.value at c.in-Ok-send_lines.ensures)
 
-pub returns-in-Err-send_third : goal.returns-in-Err-send_third
-returns-in-Err-send_third g c = broke_off c.in-Ok.start c.in-Ok-resume.resumed c.in-Ok.ensures c.in-Ok-resume.ensures (rw c.deref.ensures.value at c.in-Err-send_third.ensures)
+pub returns-in-Err-send_lines : goal.returns-in-Err-send_lines
+returns-in-Err-send_lines g c = broke_off c.in-Ok.start c.in-Ok-resume.resumed c.in-Ok.ensures c.in-Ok-resume.ensures (rw c.deref.ensures.value at c.in-Err-send_lines.ensures)
