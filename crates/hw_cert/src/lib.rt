@@ -21,9 +21,9 @@ pub use fitting::{are_cheap, tolls_ascend};
 pub use hw_cert_lines::{CheckWord, Hints, Line, Refusal, Verdict};
 pub use hw_price_laws::{Block, Blocks, Due, Dues, Tariff, Toll, Weights};
 pub use laws::{
-    cert_spelled, form_spelled, header_spelled, line_spelled, overlong_passes,
-    plain_forms, plain_read, read_forms, stream_reads, stream_steps, text_rows, text_told,
-    third_forms, third_reads, third_streams, valid_reads, valid_streams,
+    cert_spelled, form_spelled, header_spelled, line_spelled, overlong_passes, plain_forms,
+    plain_read, read_forms, stream_reads, stream_steps, text_rows, text_told, third_forms,
+    third_reads, third_streams, valid_reads, valid_streams,
 };
 pub use log::{Log, LogStop};
 pub use memory_log::MemoryLog;

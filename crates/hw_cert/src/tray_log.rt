@@ -82,7 +82,8 @@ impl<D: Desk> Log for TrayLog<'_, D> {
     fn line(&mut self, line: &Line) -> Result<(), LogStop>
         requires whole { IsWhole (log_of self.old.version (D.state self.old.desk.now)) }
         ensures takes { TakesLine line.now (log_of self.old.version (D.state self.old.desk.now)) (log_of self.new.version (D.state self.new.desk.now)) result }
-        ensures same_reference { tray_anchor self.new.desk.ghost_name self.new.version (D.state self.new.desk.now) ≡ tray_anchor self.old.desk.ghost_name self.old.version (D.state self.old.desk.now) }
+        ensures same_reference { tray_anchor self.new.desk.ghost_name self.new.version (D.state self.new.desk.now)
+            ≡ tray_anchor self.old.desk.ghost_name self.old.version (D.state self.old.desk.now) }
         ensures no_memory { result ≡ Err LogStop.NoMemory → ⊥ }
     {
         match send_line(self.desk, line) {

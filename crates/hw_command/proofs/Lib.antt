@@ -12,6 +12,7 @@ pub mod Sendings
 pub mod OnProof
 pub mod Started
 pub mod SentWorks
+pub mod Exits
 pub mod PortForms
 pub mod Meanings
 pub mod Endings

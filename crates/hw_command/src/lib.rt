@@ -18,7 +18,7 @@ mod taking;
 
 pub use cert::{ReadCert, check_report, read_cert};
 pub use ending::Ending;
-pub use finishing::{finish, finish_with};
+pub use finishing::finish;
 pub use input::{read_flat, read_input, stopped};
 pub use outcome::{CertOutcome, CertStop, shows_nothing, stop_outcome};
 pub use port_input::{PortNames, PortProblem, read_port_problem};

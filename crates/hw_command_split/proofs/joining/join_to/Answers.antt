@@ -12,10 +12,8 @@ returns-in-Err-join g c = inr (record { taken = c.in-Ok.certs; reads = c.in-Ok.e
 
 pub returns-in-Ok-send_lines : goal.returns-in-Ok-send_lines
 returns-in-Ok-send_lines g c =
-    let sends = rw c.deref-2.ensures.value at c.in-Ok-send_lines.ensures in
-    record { mid = g.D.Desk.state c.read_certs.new.desk; taken = c.in-Ok.certs; reads = c.in-Ok.ensures; joins = rw c.deref.ensures.value at c.in-Ok-join.ensures; sends = record { only = sends.only; made = sends.made; named = sends.named; answer = sends.answer } }
+    record { mid = g.D.Desk.state c.read_certs.new.desk; taken = c.in-Ok.certs; reads = c.in-Ok.ensures; joins = rw c.deref.ensures.value at c.in-Ok-join.ensures; sends = rw c.deref-2.ensures.value at c.in-Ok-send_lines.ensures }
 
 pub returns : goal.returns
 returns g c =
-    let sends = rw c.deref-2.ensures.value at c.in-Err-send_lines.ensures in
-    (c.in-Ok-join.joined, record { mid = g.D.Desk.state c.read_certs.new.desk; taken = c.in-Ok.certs; reads = c.in-Ok.ensures; joins = rw c.deref.ensures.value at c.in-Ok-join.ensures; sends = record { only = sends.only; made = sends.made; named = sends.named; answer = sends.answer } })
+    (c.in-Ok-join.joined, record { mid = g.D.Desk.state c.read_certs.new.desk; taken = c.in-Ok.certs; reads = c.in-Ok.ensures; joins = rw c.deref.ensures.value at c.in-Ok-join.ensures; sends = rw c.deref-2.ensures.value at c.in-Err-send_lines.ensures })
