@@ -18,4 +18,5 @@ pub use laws::{
     drafts_are_extremes, lines_are_true, reason_true, runs_are_longest, span_is_window,
     value_exactly_outside, window_rows,
 };
+pub use status::full_draft;
 pub use windows::put_windows;

@@ -126,8 +126,8 @@ fn put_number_line<W: Writer>(out: &mut W, flat: &Flat, ship: ShipId, slot: Slot
     );
 }
 
-/// The name of a ship.
-fn name<'s>(ships: &'s [Ship], ship: ShipId) -> &'s [u8]
+/// The name of a ship of a port.
+pub fn ship_name<'s>(ships: &'s [Ship], ship: ShipId) -> &'s [u8]
     requires ship_in { ship < length ships.now }
     ensures { result.now ≡ name_in ships.now ship }
 {
@@ -135,8 +135,8 @@ fn name<'s>(ships: &'s [Ship], ship: ShipId) -> &'s [u8]
     &ship.name.items
 }
 
-/// The minute in which a slot begins.
-fn minute(slot: Slot, slot_minutes: i64) -> u64
+/// The minute in which a slot begins, counted from the beginning of slot 0.
+pub fn minute(slot: Slot, slot_minutes: i64) -> u64
     requires slot { slot ≤ MOST_SLOTS }
     requires minutes { Within (pos 1) (pos 1_440) slot_minutes }
     ensures { result ≡ slot * whole slot_minutes }
@@ -188,7 +188,8 @@ fn put_sailing<W: Writer>(out: &mut W, port: &Port, tide: &Tide, ship: ShipId, s
     let minute = minute(slot, parts.slot_minutes);
     let draft = draft_of(port, tide, ship, slot);
     let cargo = value(port, tide, ship, slot).unwrap_or(0);
-    put_sail(out, slot, minute, draft, cargo, name(&parts.ships, ship));
+    let name = ship_name(&parts.ships, ship);
+    put_sail(out, slot, minute, draft, cargo, name);
 }
 
 /// Whether a ship with this slot stays.
@@ -208,7 +209,7 @@ fn put_stay<W: Writer>(out: &mut W, ships: &[Ship], ship: ShipId)
         out,
         &[
             Piece::Word(b"stay "),
-            Piece::Word(name(ships, ship)),
+            Piece::Word(ship_name(ships, ship)),
             Piece::Word(b"\n"),
         ],
     );
