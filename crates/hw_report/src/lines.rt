@@ -111,14 +111,14 @@ fn put_number_line<W: Writer>(out: &mut W, flat: &Flat, ship: ShipId, slot: Slot
         put_numbered(out, b"stay ", u64::from(ship));
         return;
     }
-    let value = flat.value(ship, slot).unwrap_or(0);
+    let cargo = flat.worth(ship, slot);
     put_pieces(
         out,
         &[
             Piece::Word(b"sail "),
             Piece::Number(u64::from(slot)),
             Piece::Word(b" "),
-            Piece::Number(value),
+            Piece::Number(cargo),
             Piece::Word(b" "),
             Piece::Number(u64::from(ship)),
             Piece::Word(b"\n"),
