@@ -1,5 +1,5 @@
 -- Where things stand on a picture.
-use Rattle.std.specs.Prelude.{ℕ, ◌+◌, ◌-◌, ◌*◌, ◌/◌, ◌%◌, Bool, ◌&&◌, ◌||◌, nat_eq, nat_lt, if◌then◌else◌, List, [], ◌∷◌, codes, decimal, count_by, slice_index}
+use Rattle.std.specs.Prelude.{ℕ, ◌+◌, ◌-◌, ◌*◌, ◌/◌, ◌%◌, Bool, ◌&&◌, ◌||◌, nat_eq, nat_lt, if◌then◌else◌, Option, Some, None, List, [], ◌∷◌, codes, decimal, count_by, slice_index}
 use Rattle.std.specs.List.{enumerate_from, concat}
 use Rattle.hw_chart_svg.specs.Shapes.{block, shape}
 use Rattle.hw_chart_svg.specs.declared.sheet.Window.{Window}
@@ -15,6 +15,11 @@ stands_above other slot ship own = nat_lt slot own || (nat_eq slot own && nat_lt
 -- the place of a ship's row: how many stand above it
 abbrev pub rank_of : List ℕ → ℕ → ℕ
 rank_of table ship = count_by (λ given. stands_above given.0 given.1 ship (slice_index table ship)) (enumerate_from 0 table)
+
+-- rows stand in the order of the timetable, or of the ships where there is none
+abbrev pub rank_in : Option (List ℕ) → ℕ → ℕ
+rank_in None ship = ship
+rank_in (Some table) ship = rank_of table ship
 
 -- a stripe behind every second row
 abbrev pub stripe : ℕ → ℕ → List ℕ

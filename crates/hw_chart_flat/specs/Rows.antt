@@ -5,6 +5,7 @@ use Rattle.hw_model.specs.declared.rule.Job.{Job}
 use Rattle.hw_model.specs.declared.rule.Rule.{Rule}
 use Rattle.hw_model.specs.declared.rule.Rule.TheVariants.{Pair, After, Tugs}
 use Rattle.hw_model.specs.Problem.{Problem, horizon, value_at}
+use Rattle.hw_flat.specs.Carried.{worth}
 use Rattle.hw_chart_svg.specs.Lettering.{line}
 use Rattle.hw_chart_svg.specs.Sheets.{group_end, item_begin, svg_end, title_end}
 use Rattle.hw_chart.specs.declared.course.Course.{Course}
@@ -17,7 +18,7 @@ use Rattle.hw_chart_flat.specs.declared.row.Row.{Row}
 use Rattle.hw_chart_flat.specs.Fleets.{fleets, picture_span}
 use Rattle.hw_rules.specs.Fleets.{rule_jobs}
 use Rattle.hw_chart_flat.specs.Moves.{flat_open_level}
-use Rattle.hw_chart_flat.specs.Values.{cargo_in_slot, most_carried, most_level, sails_nowhere, tall_of, value_level}
+use Rattle.hw_chart_flat.specs.Values.{most_carried, most_level, sails_nowhere, tall_of, value_level}
 
 -- where a row stands
 abbrev pub row_top : Row → ℕ
@@ -27,7 +28,7 @@ row_top row = 146 + 42 * row.rank
 unfoldable pub course_text : Problem → ℕ → Course → List ℕ
 course_text f ship Unplanned = []
 course_text f ship Stays = codes ", stays"
-course_text f ship (Sails slot) = concat (codes ", sails in slot " ∷ decimal slot ∷ codes ", carries " ∷ decimal (cargo_in_slot f ship slot) ∷ [])
+course_text f ship (Sails slot) = concat (codes ", sails in slot " ∷ decimal slot ∷ codes ", carries " ∷ decimal (worth f ship slot) ∷ [])
 
 unfoldable pub flat_row_title : Problem → Row → List ℕ
 flat_row_title f row = concat (item_begin ∷ codes "ship " ∷ decimal row.ship ∷ course_text f row.ship row.course ∷ title_end ∷ [])
@@ -85,7 +86,7 @@ flat_bars f table row slot = concat (bars_begin (row_top row) row.span ∷ flat_
 -- what the ship carries, and the most that it may carry; of a ship that carries nothing in any slot nothing is said
 abbrev pub value_figures : Problem → Row → ℕ → List ℕ
 value_figures f row slot =
-    if nat_lt 0 (most_carried f row.ship) then line (codes "r b") 1268 (row_top row + 17) (decimal (cargo_in_slot f row.ship slot)) ++ line (codes "r m") 1268 (row_top row + 33) (concat (codes "of " ∷ decimal (most_carried f row.ship) ∷ []))
+    if nat_lt 0 (most_carried f row.ship) then line (codes "r b") 1268 (row_top row + 17) (decimal (worth f row.ship slot)) ++ line (codes "r m") 1268 (row_top row + 33) (concat (codes "of " ∷ decimal (most_carried f row.ship) ∷ []))
     else []
 
 -- the slot, and what the ship carries

@@ -10,8 +10,9 @@ use Rattle.hw_chart.specs.declared.course.Course.{Course}
 use Rattle.hw_chart.specs.declared.course.Course.TheVariants.{Unplanned, Stays, Sails}
 use Rattle.hw_chart.specs.declared.row.Sailings.{Sailings}
 use Rattle.hw_chart.specs.Rows.{moves_window, sailing_mark, sailing_steps, sailings_begin}
-use Rattle.hw_chart_port.specs.Charts.{ChartParts, full_of, mark_class, tall_between}
+use Rattle.hw_chart_port.specs.Charts.{ChartParts, mark_class, tall_between}
 use Rattle.hw_chart_port.specs.Moves.{could_move}
+use Rattle.hw_port_windows.specs.Statuses.{full_draft}
 
 -- how much a draft is short of the full one; the foot of the window where the ship may not sail
 abbrev pub short_level : ℤ → ℕ → Option ℤ → ℕ
@@ -25,7 +26,7 @@ full_draft_level full tall (Some draft) = if int_eq draft full then 0 else tall
 
 -- the window from the earliest slot of the ship to its latest
 abbrev pub window_of : ChartParts → ShipParts → ℕ → Sailings
-window_of chart s y = record { y = y; span = chart.span; tall = tall_between s.light (full_of s); first = whole s.earliest; end = whole s.latest + 1 }
+window_of chart s y = record { y = y; span = chart.span; tall = tall_between s.light (full_draft s); first = whole s.earliest; end = whole s.latest + 1 }
 
 -- the level of each slot
 abbrev pub draft_level : ChartParts → ℕ → ℤ → ℕ → ℕ → ℕ
@@ -36,11 +37,11 @@ fullness_level chart v full tall slot = full_draft_level full tall (sailing char
 
 -- with which draft the ship may sail in each slot
 abbrev pub draft_steps : ChartParts → ℕ → ShipParts → Sailings → List ℕ
-draft_steps chart v s window = sailing_steps (codes "dr") window (draft_level chart v (full_of s) window.tall)
+draft_steps chart v s window = sailing_steps (codes "dr") window (draft_level chart v (full_draft s) window.tall)
 
 -- the slots in which it might sail with its full draft
 abbrev pub full_sailings : ChartParts → ℕ → ShipParts → Sailings → List ℕ
-full_sailings chart v s window = sailing_steps (codes "fl") window (fullness_level chart v (full_of s) window.tall)
+full_sailings chart v s window = sailing_steps (codes "fl") window (fullness_level chart v (full_draft s) window.tall)
 
 -- only those of an outgoing ship
 abbrev pub full_steps : ChartParts → ℕ → ShipParts → Sailings → List ℕ
@@ -48,7 +49,7 @@ full_steps chart v s window = if is_outgoing s then full_sailings chart v s wind
 
 -- the mark of a sailing in a slot
 abbrev pub sailing_in : ChartParts → ℕ → ShipParts → Sailings → ℕ → List ℕ
-sailing_in chart v s window slot = sailing_mark (mark_class s) window slot (draft_level chart v (full_of s) window.tall slot)
+sailing_in chart v s window slot = sailing_mark (mark_class s) window slot (draft_level chart v (full_draft s) window.tall slot)
 
 -- where the ship sails
 abbrev pub sailing_where : ChartParts → ℕ → ShipParts → Sailings → Course → List ℕ

@@ -7,7 +7,8 @@ use Rattle.hw_chart_svg.specs.Numbers.{clock, metres, tonnes_label}
 use Rattle.hw_port.specs.Parts.{ShipParts}
 use Rattle.hw_port_model.specs.Numbers.{whole, is_outgoing}
 use Rattle.hw_chart_port.specs.declared.sailing.Sailing.{Sailing}
-use Rattle.hw_chart_port.specs.Charts.{ChartParts, full_of}
+use Rattle.hw_chart_port.specs.Charts.{ChartParts}
+use Rattle.hw_port_windows.specs.Statuses.{full_draft}
 
 -- when the ship sails, and in which slot
 abbrev pub time_figures : Sailing → ℕ → List ℕ
@@ -18,7 +19,7 @@ abbrev pub shortness : ℕ → ℕ → List ℕ
 shortness full draft = if nat_eq draft full then codes "full" else concat (metres (full - draft) ∷ codes " short" ∷ [])
 
 abbrev pub short_figure : ShipParts → Sailing → ℕ → List ℕ
-short_figure s g y = if is_outgoing s then line (codes "r m") 1020 (y + 33) (shortness (whole (full_of s)) g.draft) else []
+short_figure s g y = if is_outgoing s then line (codes "r m") 1020 (y + 33) (shortness (whole (full_draft s)) g.draft) else []
 
 -- its draft, and how much that is short of the full one
 abbrev pub draft_figures : ShipParts → Sailing → ℕ → List ℕ

@@ -1,5 +1,5 @@
 -- The row of a ship.
-use Rattle.std.specs.Prelude.{ℕ, ◌+◌, ◌*◌, Option, Some, None, List, [], ◌∷◌, ◌++◌, codes, decimal}
+use Rattle.std.specs.Prelude.{ℕ, ◌+◌, ◌*◌, List, [], ◌∷◌, ◌++◌, codes, decimal}
 use Rattle.std.specs.List.{concat}
 use Rattle.hw_chart_svg.specs.Lettering.{line, name_line}
 use Rattle.hw_chart_svg.specs.Numbers.{metres}
@@ -9,9 +9,9 @@ use Rattle.hw_port.specs.Parts.{ShipParts}
 use Rattle.hw_port_model.specs.Numbers.{whole}
 use Rattle.hw_chart.specs.declared.course.Course.{Course}
 use Rattle.hw_chart.specs.declared.course.Course.TheVariants.{Unplanned, Stays, Sails}
-use Rattle.hw_chart.specs.Layout.{pin, rank_of, stripe}
+use Rattle.hw_chart.specs.Layout.{pin, rank_in, stripe}
 use Rattle.hw_chart.specs.Rows.{stays_label}
-use Rattle.hw_chart_port.specs.Charts.{ChartParts, by_direction, course, full_of, way}
+use Rattle.hw_chart_port.specs.Charts.{ChartParts, by_direction, course, way}
 use Rattle.hw_chart_port.specs.Heads.{places}
 use Rattle.hw_chart_port.specs.Reasons.{no_slot_where}
 use Rattle.hw_chart_port.specs.Titles.{row_title}
@@ -20,11 +20,7 @@ use Rattle.hw_chart_port.specs.Closings.{closings}
 use Rattle.hw_chart_port.specs.Sailings.{sailing_of}
 use Rattle.hw_chart_port.specs.Bars.{bars}
 use Rattle.hw_chart_port.specs.Figures.{figures}
-
--- rows stand in the order of the timetable, or of the ships where there is none
-abbrev pub rank_in : Option (List ℕ) → ℕ → ℕ
-rank_in None v = v
-rank_in (Some table) v = rank_of table v
+use Rattle.hw_port_windows.specs.Statuses.{full_draft}
 
 abbrev pub row_y : ChartParts → ℕ → ℕ
 row_y chart rank = (places chart.port).rows + 42 * rank
@@ -47,7 +43,7 @@ row_number v word full y = line (codes "m") 16 (y + 33) (concat (codes "ship " �
 
 -- the ship's name, its number and its full draft
 abbrev pub row_label : ℕ → ShipParts → ℕ → List ℕ
-row_label v s y = row_name s y ++ row_number v (full_draft_word s) (whole (full_of s)) y
+row_label v s y = row_name s y ++ row_number v (full_draft_word s) (whole (full_draft s)) y
 
 abbrev pub row_begin : ChartParts → ℕ → ShipParts → ℕ → List ℕ
 row_begin chart v s rank = concat (item_begin ∷ row_title chart v s (course chart v) ∷ title_end ∷ stripe rank (row_y chart rank) ∷ [])

@@ -2,7 +2,6 @@
 ghost use Rattle.std.specs.Prelude.{◌≡◌, ◌≢◌, ◌≤◌, ◌<◌, ℕ, IfOk};
 ghost use Rattle.hw_model.specs.Problem.{shape_of};
 ghost use Rattle.hw_model.specs.Rooms.{RoomFits, low_of, high_of, whole_room};
-ghost use Rattle.hw_goal.specs.Kept as kept;
 ghost use Rattle.hw_goal.specs.Kept.{IsPeak, IsHigher, IsTop, top_at, AreKept, SeenAt, SeenIn};
 
 use hw_flat::{Flat, Room, ShipId, Slot};
@@ -32,16 +31,6 @@ pub struct Figures {
     pub sum: u64,
 }
 
-/// The value of a ship in a slot, 0 where it has none.
-pub(crate) fn worth(flat: &Flat, ship: ShipId, slot: Slot) -> u64
-    requires ship_in { ship < flat.now.ships }
-    requires slot_in { slot < flat.now.slots }
-    ensures value { result ≡ kept.worth flat.now ship slot }
-    ensures small { result ≤ MOST_VALUE }
-{
-    flat.value(ship, slot).unwrap_or(0)
-}
-
 fn higher(one: Peak, other: Peak) -> Peak
     ensures { IsHigher one other result }
 {
@@ -59,13 +48,13 @@ fn peak_of(flat: &Flat, ship: ShipId, low: Slot, high: Slot) -> Peak
     let mut at = high;
     let mut peak = Peak {
         slot: at,
-        value: worth(flat, ship, at),
+        value: flat.worth(ship, at),
     };
     while low < at {
         at -= 1;
         let here = Peak {
             slot: at,
-            value: worth(flat, ship, at),
+            value: flat.worth(ship, at),
         };
         peak = higher(here, peak);
     }

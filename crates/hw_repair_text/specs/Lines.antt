@@ -1,23 +1,11 @@
 -- The lines of the text. Names come last.
-use Rattle.std.specs.Prelude.{ℕ, ◌*◌, ◌-◌, ◌==◌, nat_le, List, [], ◌∷◌, ◌++◌, codes, decimal, if◌then◌else◌}
+use Rattle.std.specs.Prelude.{ℕ, ◌*◌, ◌-◌, ◌==◌, nat_le, List, [], ◌∷◌, codes, decimal, if◌then◌else◌}
 use Rattle.std.specs.List.{concat}
 use Rattle.hw_model.specs.Problem.{Problem, stays}
 use Rattle.hw_port_model.specs.Numbers.{whole}
 use Rattle.hw_report.specs.Lines.{cargo_text, name_in}
 use Rattle.hw_report.specs.Pieces.{tenths}
 use Rattle.hw_report.specs.Reports.{Naming, by_number, by_name}
-use Rattle.hw_repair_text.specs.declared.piece.Piece.{Piece}
-use Rattle.hw_repair_text.specs.declared.piece.Piece.TheVariants.{Word, Number, Tonnes}
-
--- the text of a word, a number or a cargo in tonnes
-abbrev pub repair_piece_text : Piece → List ℕ
-repair_piece_text (Word word) = word.now
-repair_piece_text (Number n) = decimal n
-repair_piece_text (Tonnes c) = tenths c
-
-abbrev pub repair_pieces_text : List Piece → List ℕ
-repair_pieces_text [] = []
-repair_pieces_text (piece ∷ pieces) = repair_piece_text piece ++ repair_pieces_text pieces
 
 -- a slot, or that the ship stays
 abbrev pub slot_text : Problem → ℕ → List ℕ

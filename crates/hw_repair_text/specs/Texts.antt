@@ -2,12 +2,13 @@
 use Rattle.std.specs.Prelude.{ℕ, ◌+◌, List, [], ◌∷◌, ◌++◌, map, codes}
 use Rattle.std.specs.List.{concat}
 use Rattle.hw_model.specs.Problem.{Problem}
+use Rattle.hw_flat.specs.Carried.{worth}
 use Rattle.hw_repair.specs.declared.plan.Wish.{Wish}
 use Rattle.hw_repair.specs.Wishes.{PlanParts, wished}
 use Rattle.hw_report.specs.Reports.{Naming}
 use Rattle.hw_repair_text.specs.declared.fate.Fate.{Fate}
 use Rattle.hw_repair_text.specs.declared.fate.Fate.TheVariants.{Moved, Kept, Sailed}
-use Rattle.hw_repair_text.specs.Fates.{fate, worth, worths}
+use Rattle.hw_repair_text.specs.Fates.{fate, worths}
 use Rattle.hw_repair_text.specs.Lines.{change_line, ship_moved_line, stands_line, total_line}
 
 -- the line of a ship, by what the repair makes of it

@@ -2,7 +2,8 @@
 use Rattle.std.specs.Prelude.{ℕ, ◌+◌, ◌-◌, ◌*◌, ◌/◌, ◌%◌, List, [], ◌∷◌, ◌++◌, Option, Some, None, codes, decimal, unwrap_or, slice_get, if◌then◌else◌, nat_le, pos}
 use Rattle.std.specs.Option.{option_map_or}
 use Rattle.std.specs.List.{concat}
-use Rattle.hw_model.specs.Problem.{Problem, stays, value_at}
+use Rattle.hw_model.specs.Problem.{Problem, stays}
+use Rattle.hw_flat.specs.Carried.{worth}
 use Rattle.hw_port.specs.Parts.{ShipParts}
 use Rattle.hw_port.specs.Whole.{Parts}
 use Rattle.hw_tide.specs.Levels.{TideParts}
@@ -83,7 +84,7 @@ bound_text names head bound = []
 abbrev pub number_line : Problem → ℕ → ℕ → List ℕ
 number_line f ship slot =
     if stays f slot then numbered (codes "stay ") ship
-    else concat (codes "sail " ∷ decimal slot ∷ codes " " ∷ decimal (unwrap_or (value_at f ship slot) 0) ∷ codes " " ∷ decimal ship ∷ codes "\n" ∷ [])
+    else concat (codes "sail " ∷ decimal slot ∷ codes " " ∷ decimal (worth f ship slot) ∷ codes " " ∷ decimal ship ∷ codes "\n" ∷ [])
 
 -- the name of a ship, nothing where there is no such ship
 abbrev pub name_in : List ShipParts → ℕ → List ℕ

@@ -14,5 +14,7 @@ mod reporting;
 mod shown;
 mod words;
 
+pub use lines::{cargo_piece, minute, ship_name};
+pub use piece::{Piece, put_pieces};
 pub use report::{Head, Names, RefusedWord, Report};
 pub use reporting::print_report;

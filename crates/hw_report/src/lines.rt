@@ -112,14 +112,14 @@ fn put_number_line<W: Writer>(out: &mut W, flat: &Flat, ship: ShipId, slot: Slot
         put_numbered(out, b"stay ", u64::from(ship));
         return;
     }
-    let value = flat.value(ship, slot).unwrap_or(0);
+    let cargo = flat.worth(ship, slot);
     put_pieces(
         out,
         &[
             Piece::Word(b"sail "),
             Piece::Number(u64::from(slot)),
             Piece::Word(b" "),
-            Piece::Number(value),
+            Piece::Number(cargo),
             Piece::Word(b" "),
             Piece::Number(u64::from(ship)),
             Piece::Word(b"\n"),
@@ -127,8 +127,8 @@ fn put_number_line<W: Writer>(out: &mut W, flat: &Flat, ship: ShipId, slot: Slot
     );
 }
 
-/// The name of a ship.
-fn name<'s>(ships: &'s [Ship], ship: ShipId) -> &'s [u8]
+/// The name of a ship of a port.
+pub fn ship_name<'s>(ships: &'s [Ship], ship: ShipId) -> &'s [u8]
     requires ship_in { ship < length ships.now }
     ensures { result.now ≡ name_in ships.now ship }
 {
@@ -136,8 +136,8 @@ fn name<'s>(ships: &'s [Ship], ship: ShipId) -> &'s [u8]
     &ship.name.items
 }
 
-/// The minute in which a slot begins.
-fn minute(slot: Slot, slot_minutes: i64) -> u64
+/// The minute in which a slot begins, counted from the beginning of slot 0.
+pub fn minute(slot: Slot, slot_minutes: i64) -> u64
     requires slot { slot ≤ MOST_SLOTS }
     requires minutes { Within (pos 1) (pos 1_440) slot_minutes }
     ensures { result ≡ slot * whole slot_minutes }
@@ -189,7 +189,8 @@ fn put_sailing<W: Writer>(out: &mut W, port: &Port, tide: &Tide, ship: ShipId, s
     let minute = minute(slot, parts.slot_minutes);
     let draft = draft_of(port, tide, ship, slot);
     let cargo = value(port, tide, ship, slot).unwrap_or(0);
-    put_sail(out, slot, minute, draft, cargo, name(&parts.ships, ship));
+    let name = ship_name(&parts.ships, ship);
+    put_sail(out, slot, minute, draft, cargo, name);
 }
 
 /// Whether a ship with this slot stays.
@@ -209,7 +210,7 @@ fn put_stay<W: Writer>(out: &mut W, ships: &[Ship], ship: ShipId)
         out,
         &[
             Piece::Word(b"stay "),
-            Piece::Word(name(ships, ship)),
+            Piece::Word(ship_name(ships, ship)),
             Piece::Word(b"\n"),
         ],
     );
