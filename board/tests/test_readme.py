@@ -103,3 +103,15 @@ def test_each_word_of_the_board_is_there() -> None:
         assert words.lower() in said, f"docs/BOARD.md: {words}, which the page doesn't say"
     for name in re.findall(r"`([a-z-]+\.(?:json|csv|txt))`", page):
         assert os.path.exists(os.path.join(TOP, "examples", name)), name
+
+
+def test_the_days_that_each_solver_proves() -> None:
+    """The table of the first page counts what docs/BENCHMARKS.md has of each."""
+    def rows(page: str, head: str) -> list[list[str]]:
+        lines = page_of(page).partition(head)[2].split("\n\n")[0].splitlines()
+        return [[cell.strip() for cell in line.strip("|").split("|")] for line in [head + lines[0], *lines[2:]]]
+
+    names, *days = rows("docs/BENCHMARKS.md", "| problem |")
+    counted = {name.strip("`"): sum(day[place] != "none" for day in days) for place, name in enumerate(names) if place > 2}
+    solvers, proved = rows("README.md", "| `prove` |")
+    assert len(days) == 17 and [counted[name.strip("`")] for name in solvers] == [int(number) for number in proved]
