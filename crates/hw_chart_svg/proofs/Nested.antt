@@ -1,6 +1,7 @@
 -- Elements with words or elements in them, as texts one after another.
-use Rattle.std.proofs.Common.{◌≡◌, ◌++◌, ◌∙◌, ℕ, Bool, true, false, if◌then◌else◌, List, [], ◌∷◌, codes, decimal, refl, ap, sym, append_assoc, append-nil}
+use Rattle.std.proofs.Common.{◌≡◌, ◌++◌, ◌∙◌, ℕ, Bool, true, false, if◌then◌else◌, List, [], ◌∷◌, codes, decimal, refl, ap, sym, append-nil}
 use Rattle.std.specs.List.{concat}
+use Rattle.std.proofs.lemmas.List.Folds.{concat-append}
 use Rattle.hw_chart_svg.specs.Lettering.{line, text_begin}
 use Rattle.hw_chart_svg.specs.Names.{byte_text, escaped}
 use Rattle.hw_chart_svg.specs.Shapes.{shape_begin}
@@ -8,13 +9,9 @@ use Rattle.hw_chart_svg.specs.Sheets.{picture, size_begin, svg_end, title_end}
 use Rattle.hw_chart_svg.specs.Trees.{Attribute, words, element, no_more, node, attributes_text, nodes_text}
 use Rattle.hw_chart_svg.specs.WellFormed.{attribute, on_a_line, picture_attributes, place_attributes, title_node}
 
-joined-append : (a b : List (List ℕ)) → concat a ++ concat b ≡ concat (a ++ b)
-joined-append [] b = refl
-joined-append (x ∷ a) b = append_assoc x (concat a) (concat b) ∙ ap (λ (l : List ℕ). x ++ l) (joined-append a b)
-
 -- texts among others
 among : (a b c : List (List ℕ)) → concat (a ++ concat b ∷ c) ≡ concat (a ++ (b ++ c))
-among [] b c = joined-append b c
+among [] b c = sym (concat-append b c)
 among (x ∷ a) b c = ap (λ (l : List ℕ). x ++ l) (among a b c)
 
 abbrev attribute_pieces : Attribute → List (List ℕ)
@@ -26,7 +23,7 @@ attributes_pieces (a ∷ more) = attribute_pieces a ++ attributes_pieces more
 
 attributes_joined : (attributes : List Attribute) → attributes_text attributes ≡ concat (attributes_pieces attributes)
 attributes_joined [] = refl
-attributes_joined (a ∷ more) = ap (λ (l : List ℕ). concat (attribute_pieces a) ++ l) (attributes_joined more) ∙ joined-append (attribute_pieces a) (attributes_pieces more)
+attributes_joined (a ∷ more) = ap (λ (l : List ℕ). concat (attribute_pieces a) ++ l) (attributes_joined more) ∙ sym (concat-append (attribute_pieces a) (attributes_pieces more))
 
 -- an element that holds something
 abbrev element_text : List ℕ → List Attribute → List ℕ → List ℕ
@@ -48,7 +45,7 @@ element_joined tag attributes inside =
 on_line : (tag : List ℕ) (attributes : List Attribute) (inside : List (List ℕ)) → element_text tag attributes (concat inside) ++ (codes "\n" ++ []) ≡ concat (element_pieces tag attributes inside ++ (codes "\n" ∷ []))
 on_line tag attributes inside =
     ap (λ (l : List ℕ). l ++ (codes "\n" ++ [])) (element_joined tag attributes inside)
-    ∙ joined-append (element_pieces tag attributes inside) (codes "\n" ∷ [])
+    ∙ sym (concat-append (element_pieces tag attributes inside) (codes "\n" ∷ []))
 
 abbrev title_pieces : List ℕ → List (List ℕ)
 title_pieces title = element_pieces (codes "title") [] (title ∷ [])
@@ -59,7 +56,7 @@ shape_attributes class path = attribute (codes "class") class ∷ attribute (cod
 pub titled_nested : (class path title : List ℕ) → concat (shape_begin class ∷ path ∷ codes "\"><title>" ∷ title ∷ codes "</title></path>\n" ∷ []) ≡ element_text (codes "path") (shape_attributes class path) (element_text (codes "title") [] (title ++ []) ++ []) ++ (codes "\n" ++ [])
 unfolding shape_begin
 titled_nested class path title =
-    let inside : element_text (codes "title") [] (title ++ []) ++ [] ≡ concat (title_pieces title) = ap (λ (l : List ℕ). l ++ []) (element_joined (codes "title") [] (title ∷ [])) ∙ joined-append (title_pieces title) [] in
+    let inside : element_text (codes "title") [] (title ++ []) ++ [] ≡ concat (title_pieces title) = ap (λ (l : List ℕ). l ++ []) (element_joined (codes "title") [] (title ∷ [])) ∙ sym (concat-append (title_pieces title) [)] in
     let whole = ap (λ (l : List ℕ). element_text (codes "path") (shape_attributes class path) l ++ (codes "\n" ++ [])) inside ∙ on_line (codes "path") (shape_attributes class path) (title_pieces title) in
     among [] (codes "<path class=\"" ∷ class ∷ codes "\" d=\"" ∷ []) (path ∷ codes "\"><title>" ∷ title ∷ codes "</title></path>\n" ∷ []) ∙ sym whole
 
@@ -78,7 +75,7 @@ line_nested class x y text =
 shortened_nested : (class : List ℕ) (x y : ℕ) (whole shown : List ℕ) → concat (text_begin class x y ∷ codes "><title>" ∷ whole ∷ codes "</title>" ∷ shown ∷ codes "</text>\n" ∷ []) ≡ element_text (codes "text") (place_attributes class x y) (element_text (codes "title") [] (whole ++ []) ++ (shown ++ [])) ++ (codes "\n" ++ [])
 unfolding text_begin
 shortened_nested class x y whole shown =
-    let inside : element_text (codes "title") [] (whole ++ []) ++ (shown ++ []) ≡ concat (title_pieces whole ++ (shown ∷ [])) = ap (λ (l : List ℕ). l ++ (shown ++ [])) (element_joined (codes "title") [] (whole ∷ [])) ∙ joined-append (title_pieces whole) (shown ∷ []) in
+    let inside : element_text (codes "title") [] (whole ++ []) ++ (shown ++ []) ≡ concat (title_pieces whole ++ (shown ∷ [])) = ap (λ (l : List ℕ). l ++ (shown ++ [])) (element_joined (codes "title") [] (whole ∷ [])) ∙ sym (concat-append (title_pieces whole) (shown ∷ [])) in
     let all = ap (λ (l : List ℕ). element_text (codes "text") (place_attributes class x y) l ++ (codes "\n" ++ [])) inside ∙ on_line (codes "text") (place_attributes class x y) (title_pieces whole ++ (shown ∷ [])) in
     among [] (begin_pieces class x y) (codes "><title>" ∷ whole ∷ codes "</title>" ∷ shown ∷ codes "</text>\n" ∷ []) ∙ sym all
 
@@ -103,7 +100,7 @@ picture_inside : (title inside : List ℕ) → codes "\n" ++ (element_text (code
 picture_inside title inside =
     ap (λ (l : List ℕ). codes "\n" ++ (l ++ (codes "\n" ++ inside))) (element_joined (codes "title") [] (title ∷ []))
     ∙ ap (λ (l : List ℕ). codes "\n" ++ (concat (title_pieces title) ++ (codes "\n" ++ l))) (sym (append-nil inside))
-    ∙ ap (λ (l : List ℕ). codes "\n" ++ l) (joined-append (title_pieces title) (codes "\n" ∷ inside ∷ []))
+    ∙ ap (λ (l : List ℕ). codes "\n" ++ l) (sym (concat-append (title_pieces title) (codes "\n" ∷ inside ∷ [])))
 
 picture_whole : (width height : ℕ) (title inside : List ℕ) → element_text (codes "svg") (picture_attributes width height title) (codes "\n" ++ (element_text (codes "title") [] (title ++ []) ++ (codes "\n" ++ inside))) ++ (codes "\n" ++ []) ≡ concat (element_pieces (codes "svg") (attributes_with width height title (concat (view_pieces width height))) (inside_pieces title inside) ++ (codes "\n" ∷ []))
 picture_whole width height title inside =
