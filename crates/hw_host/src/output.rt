@@ -4,8 +4,8 @@ ghost use Rattle.std.specs.Prelude.{◌≡◌, ◌↔◌, ◌≤◌, ◌<◌, le
 ghost use Rattle.hw_desk.specs.State.{Rose};
 ghost use Rattle.hw_host.specs.Opened.{GoesTo};
 
-use crate::files::{FileId, count_write, failed, id_of};
-use hw_desk::DeskFailed;
+use crate::files::{FileId, count_write, id_of};
+use hw_desk::{DeskFailed, failed};
 use std::fs::File;
 use std::io::Write;
 use std::{fs, io};

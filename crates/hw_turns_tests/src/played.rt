@@ -8,7 +8,7 @@ ghost use Rattle.hw_turns.specs.Members.{Working};
 use crate::player::Player;
 use crate::problems::{APART, CLIMB, NONE_FITS, TUGS, crew_lines};
 use hw_cert::Line;
-use hw_flat::{Flat, NoMemory, Timetable, make_demo};
+use hw_flat::{Flat, NoMemory, Timetable, is_timetable, make_demo};
 use hw_rules::cargo;
 use hw_search::{Branching, Turn};
 use std::alloc::Global;
