@@ -1,8 +1,8 @@
 //! The slots in which a timetable holds more tugs than the fleet has.
 
-ghost use Rattle.std.specs.Prelude.{◌≡◌, ◌≤◌, ◌<◌, ◌≤ℤ◌, pos};
+ghost use Rattle.std.specs.Prelude.{◌≡◌, ◌≤◌, ◌<◌};
 ghost use Rattle.hw_desk.specs.Writers.{Puts};
-ghost use Rattle.hw_port_model.specs.Numbers.{horizon_of, whole};
+ghost use Rattle.hw_port_model.specs.Numbers.{horizon_of};
 ghost use Rattle.hw_chart_port.specs.Heads.{places};
 ghost use Rattle.hw_chart_clash.specs.Shapes.{fleet_tall as tall_of_fleet, lacking_level, lacking_mark, lacking_steps};
 

@@ -8,7 +8,7 @@ ghost use Rattle.hw_chart.specs.Courses.{SailsBefore};
 ghost use Rattle.hw_chart_flat.specs.Rows.{course_text, flat_figures, flat_row_title};
 
 use crate::row::{Row, row_y};
-use crate::values::{most, value};
+use crate::values::most;
 use hw_chart::Course;
 use hw_chart_svg::{Piece, put_item_begin, put_line, put_pieces, put_title_end};
 use hw_desk::Writer;

@@ -1,6 +1,6 @@
 //! Dates with a time of the day.
 
-ghost use Rattle.std.specs.Prelude.{◌≡◌, ◌≤◌, ◌<◌, ◌+◌, length};
+ghost use Rattle.std.specs.Prelude.{◌≡◌, ◌≤◌, ◌+◌};
 ghost use Rattle.hw_port.specs.Kept.{IsStart};
 ghost use Rattle.hw_port_dates.specs.Dates.{IsDate};
 ghost use Rattle.hw_port_dates.specs.Moments.{IsMoment, in_day, minute_of_day, moment_after, start_of};

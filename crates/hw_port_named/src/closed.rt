@@ -4,7 +4,7 @@ ghost use Rattle.std.specs.Prelude.{◌≡◌, ◌≤◌, ◌≤ℤ◌, ◌++◌
 ghost use Rattle.hw_port.specs.Kept.{PassKept, PortKept, ShipKept, Within};
 ghost use Rattle.hw_port_named.specs.Closed.{closes_some, closing_text, closing_told, closings_told, pass_told, passed, passes_told, place_told, ship_told, waypoint_told, window_told};
 
-use crate::naming::natural;
+use hw_draft::natural;
 use hw_model::{MOST_SLOTS, ShipId};
 use hw_port::{Closing, Pass, PortParts, Ship, Waypoint};
 use hw_text::put_number;

@@ -1,6 +1,6 @@
 //! Naming the restrictions of a port.
 
-ghost use Rattle.std.specs.Prelude.{◌≡◌, ◌+◌, ◌<◌, ◌≤◌, ◌≤ℤ◌, pos, ◌++◌, ◌∷◌, [], length, map, All, OnOk, IfOk, slice_index_or};
+ghost use Rattle.std.specs.Prelude.{◌≡◌, ◌+◌, ◌<◌, ◌≤◌, pos, ◌++◌, ◌∷◌, [], length, map, All, OnOk, IfOk, slice_index_or};
 ghost use Rattle.std.specs.List.{list_any, range_with_len};
 ghost use Rattle.hw_port.specs.Kept.{RowKept, StretchKept, BerthKept, AfterKept, ShipKept, PortKept};
 ghost use Rattle.hw_port_model.specs.Numbers.{whole, separation_of};
