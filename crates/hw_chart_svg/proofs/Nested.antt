@@ -56,7 +56,7 @@ shape_attributes class path = attribute (codes "class") class ∷ attribute (cod
 pub titled_nested : (class path title : List ℕ) → concat (shape_begin class ∷ path ∷ codes "\"><title>" ∷ title ∷ codes "</title></path>\n" ∷ []) ≡ element_text (codes "path") (shape_attributes class path) (element_text (codes "title") [] (title ++ []) ++ []) ++ (codes "\n" ++ [])
 unfolding shape_begin
 titled_nested class path title =
-    let inside : element_text (codes "title") [] (title ++ []) ++ [] ≡ concat (title_pieces title) = ap (λ (l : List ℕ). l ++ []) (element_joined (codes "title") [] (title ∷ [])) ∙ sym (concat-append (title_pieces title) [)] in
+    let inside : element_text (codes "title") [] (title ++ []) ++ [] ≡ concat (title_pieces title) = ap (λ (l : List ℕ). l ++ []) (element_joined (codes "title") [] (title ∷ [])) ∙ sym (concat-append (title_pieces title) []) in
     let whole = ap (λ (l : List ℕ). element_text (codes "path") (shape_attributes class path) l ++ (codes "\n" ++ [])) inside ∙ on_line (codes "path") (shape_attributes class path) (title_pieces title) in
     among [] (codes "<path class=\"" ∷ class ∷ codes "\" d=\"" ∷ []) (path ∷ codes "\"><title>" ∷ title ∷ codes "</title></path>\n" ∷ []) ∙ sym whole
 
