@@ -45,10 +45,11 @@ line_lits f ships line same h = lits_of f ships (clause_of line) same (line_clau
 
 -- ---- what it means
 
-falsified : (t : LitTruth) → is_false t ≡ true → t ≡ False
-falsified True e = absurd cc
-falsified False e = refl
-falsified Free e = absurd cc
+-- a literal that is false in a room holds of nothing inside
+refuted : (room : RoomModel) (table : List ℕ) (lit : Lit) → IsLitOf room.ships lit → Inside table room → (t : LitTruth) → truth room lit ≡ t → is_false t ≡ true → lit_holds table lit ≡ false
+refuted room table lit fit inside True is e = absurd cc
+refuted room table lit fit inside False is e = false_inside room table lit fit inside is
+refuted room table lit fit inside Free is e = absurd cc
 
 rest_true : (a b : Bool) → a ≡ false → (a || b) ≡ true → b ≡ true
 rest_true true b e h = absurd cc
@@ -59,7 +60,7 @@ never_true : (room : RoomModel) (table : List ℕ) (clause : List Lit) → All (
 never_true room table [] fit inside e h = absurd cc
 never_true room table (lit ∷ more) fit inside e h =
     let each = and_parts (is_false (truth room lit)) (are_false room more) e in
-    let no : lit_holds table lit ≡ false = false_inside room table lit (All-head (IsLitOf room.ships) lit more fit) inside (falsified (truth room lit) each.0) in
+    let no : lit_holds table lit ≡ false = refuted room table lit (All-head (IsLitOf room.ships) lit more fit) inside (truth room lit) refl each.0 in
     never_true room table more (All-tail (IsLitOf room.ships) lit more fit) inside each.1 (rest_true (lit_holds table lit) (clause_holds table more) no h)
 
 -- a clause of literals in range, among more lines

@@ -4,7 +4,7 @@ use Rattle.std.specs.List.{concat}
 use Rattle.hw_model.specs.Problem.{Problem, stays}
 use Rattle.hw_port_model.specs.Numbers.{whole}
 use Rattle.hw_report.specs.Lines.{cargo_text, name_in}
-use Rattle.hw_report.specs.Pieces.{tenths}
+use Rattle.hw_chart_svg.specs.Numbers.{tonnes_label}
 use Rattle.hw_report.specs.Reports.{Naming, by_number, by_name}
 
 -- a slot, or that the ship stays
@@ -51,7 +51,7 @@ unfoldable pub number_change : ℕ → ℕ → ℕ → List ℕ
 number_change ship old new = concat (change_word old new ∷ decimal ship ∷ codes " " ∷ decimal (apart old new) ∷ codes "\n" ∷ [])
 
 unfoldable pub name_change : List ℕ → ℕ → ℕ → ℕ → List ℕ
-name_change name ship old new = concat (change_word old new ∷ decimal ship ∷ codes " " ∷ tenths (apart old new) ∷ codes " " ∷ name ∷ codes "\n" ∷ [])
+name_change name ship old new = concat (change_word old new ∷ decimal ship ∷ codes " " ∷ tonnes_label (apart old new) ∷ codes " " ∷ name ∷ codes "\n" ∷ [])
 
 abbrev pub change_of : Naming → ℕ → ℕ → ℕ → List ℕ
 change_of by_number ship old new = number_change ship old new

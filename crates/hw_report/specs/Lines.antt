@@ -13,7 +13,7 @@ use Rattle.hw_port_model.specs.Numbers.{whole, horizon_of}
 use Rattle.hw_port_model.specs.Drafts.{sailing, value}
 use Rattle.hw_report.specs.declared.report.Head.{Head}
 use Rattle.hw_report.specs.declared.report.Head.TheVariants.{Optimal, Infeasible, Unfinished, Memory}
-use Rattle.hw_report.specs.Pieces.{tenths}
+use Rattle.hw_chart_svg.specs.Numbers.{tonnes_label}
 use Rattle.hw_report.specs.Reports.{Naming, by_number, by_name}
 
 -- a label, a number and the end of the line
@@ -23,7 +23,7 @@ numbered label n = concat (label ∷ decimal n ∷ codes "\n" ∷ [])
 -- a cargo in tenths of a tonne, or of a port in tonnes with one decimal
 abbrev pub cargo_text : Naming → ℕ → List ℕ
 cargo_text by_number c = decimal c
-cargo_text (by_name p h) c = tenths c
+cargo_text (by_name p h) c = tonnes_label c
 
 -- a word and a cargo
 abbrev pub cargo_line : List ℕ → Naming → ℕ → List ℕ
@@ -92,7 +92,7 @@ name_in ships ship = option_map_or (λ s. s.name) (slice_get ships ship) []
 
 -- a ship's slot, the minute in which that begins, its draft and cargo there, and its name
 unfoldable pub sail_line : ℕ → ℕ → ℕ → ℕ → List ℕ → List ℕ
-sail_line slot minute draft c name = concat (codes "sail " ∷ decimal slot ∷ codes " " ∷ decimal minute ∷ codes " " ∷ decimal draft ∷ codes " " ∷ tenths c ∷ codes " " ∷ name ∷ codes "\n" ∷ [])
+sail_line slot minute draft c name = concat (codes "sail " ∷ decimal slot ∷ codes " " ∷ decimal minute ∷ codes " " ∷ decimal draft ∷ codes " " ∷ tonnes_label c ∷ codes " " ∷ name ∷ codes "\n" ∷ [])
 
 -- the line of a ship that sails, by a port's names
 abbrev pub sailing_line : Parts → TideParts → ℕ → ℕ → List ℕ

@@ -1,8 +1,9 @@
 //! The pieces of a line: words, numbers and cargo.
 
-ghost use Rattle.hw_report.specs.Pieces.{pieces_text, piece_text, tenths};
+ghost use Rattle.hw_report.specs.Pieces.{pieces_text, piece_text};
 ghost use Rattle.hw_desk.specs.Writers.{Puts};
 
+use hw_chart_svg::put_tenths;
 use hw_desk::Writer;
 
 /// A piece of a line.
@@ -14,21 +15,13 @@ pub enum Piece<'a> {
     Tonnes(u64),
 }
 
-fn put_tonnes<W: Writer>(out: &mut W, cargo: u64)
-    ensures { Puts (tenths cargo) (W.state out.old) (W.state out.new) }
-{
-    out.put_number(cargo / 10);
-    out.put(b".");
-    out.put_number(cargo % 10);
-}
-
 fn put_piece<W: Writer>(out: &mut W, piece: Piece)
     ensures { Puts (piece_text piece.entry) (W.state out.old) (W.state out.new) }
 {
     match piece {
         Piece::Word(word) => out.put(word),
         Piece::Number(number) => out.put_number(number),
-        Piece::Tonnes(cargo) => put_tonnes(out, cargo),
+        Piece::Tonnes(cargo) => put_tenths(out, cargo),
     }
 }
 
