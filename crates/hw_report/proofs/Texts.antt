@@ -3,6 +3,7 @@ use Rattle.std.proofs.Common.{◌≡◌, [], ◌∷◌, false, true, Some, None,
 use Rattle.std.specs.Fmt.{digits}
 use Rattle.hw_desk.specs.declared.desk.Feed.TheVariants as feeds
 use Rattle.hw_flat.specs.declared.fault.FlatWord.TheVariants as flats
+use Rattle.hw_chart_svg.specs.Numbers.{tonnes_label}
 use Rattle.hw_cert.specs.declared.stop.FormWord.TheVariants as forms
 use Rattle.hw_cert_lines.specs.declared.check.CheckWord.TheVariants as checks
 use Rattle.hw_cert_lines.specs.declared.check.Verdict.TheVariants as verdicts
@@ -18,19 +19,19 @@ use Rattle.hw_report.specs.Lines.{sail_line}
 use Rattle.hw_report.specs.Texts.{report_text}
 
 pub cape_grace_sails : report_text (solved (Optimal 228_000) (flattened (small false) tides) (by_name (small false) tides) (Some (0 ∷ [])) None None) ≡ codes "optimal 22800.0\nsail 0 0 1590 22800.0 Cape Grace\nend\n"
-unfolding digits sail_line
+unfolding digits tonnes_label sail_line
 cape_grace_sails = refl
 
 pub cape_grace_stays : report_text (solved (Unfinished 7) (flattened (small true) tides) (by_name (small true) tides) (Some (2 ∷ [])) None None) ≡ codes "unfinished 7 best 0.0\nstay Cape Grace\nend\n"
-unfolding digits sail_line
+unfolding digits tonnes_label sail_line
 cape_grace_stays = refl
 
 pub by_its_number : report_text (solved (Optimal 228_000) (flattened (small false) tides) by_number (Some (0 ∷ [])) None None) ≡ codes "optimal 228000\nsail 0 228000 0\nend\n"
-unfolding digits
+unfolding digits tonnes_label
 by_its_number = refl
 
 pub staying_by_number : report_text (solved Memory (flattened (small true) tides) by_number (Some (2 ∷ [])) None None) ≡ codes "memory best 0\nstay 0\nend\n"
-unfolding digits
+unfolding digits tonnes_label
 staying_by_number = refl
 
 pub no_timetable : report_text (solved Memory (flattened (small true) tides) (by_name (small true) tides) None None None) ≡ codes "memory none\nend\n"
@@ -40,19 +41,19 @@ pub none_permitted : report_text (solved Infeasible (flattened (small true) tide
 none_permitted = refl
 
 pub none_found : report_text (solved (Unfinished 30) (flattened (small true) tides) by_number None None None) ≡ codes "unfinished 30 none\nend\n"
-unfolding digits
+unfolding digits tonnes_label
 none_found = refl
 
 pub optimal_in_tonnes : report_text (checked (verdicts.Optimal 4_084_107) None None (by_name (small true) tides)) ≡ codes "optimal 408410.7\n"
-unfolding digits
+unfolding digits tonnes_label
 optimal_in_tonnes = refl
 
 pub unfinished_in_tonnes : report_text (checked (verdicts.Unfinished (Some 5)) None None (by_name (small true) tides)) ≡ codes "unfinished 0.5\n"
-unfolding digits
+unfolding digits tonnes_label
 unfinished_in_tonnes = refl
 
 pub optimal_by_number : report_text (checked (verdicts.Optimal 40) None None by_number) ≡ codes "optimal 40\n"
-unfolding digits
+unfolding digits tonnes_label
 optimal_by_number = refl
 
 pub shown_infeasible : report_text (checked verdicts.Infeasible None None by_number) ≡ codes "infeasible\n"
@@ -62,113 +63,113 @@ pub shown_nothing : report_text (checked (verdicts.Unfinished None) None None by
 shown_nothing = refl
 
 pub a_bound_after : report_text (checked (verdicts.Unfinished (Some 15_471_561)) (Some 15_503_718) None by_number) ≡ codes "unfinished 15471561 bound 15503718\n"
-unfolding digits
+unfolding digits tonnes_label
 a_bound_after = refl
 
 pub bound_in_tonnes : report_text (checked (verdicts.Unfinished (Some 5)) (Some 4_084_107) None (by_name (small true) tides)) ≡ codes "unfinished 0.5 bound 408410.7\n"
-unfolding digits
+unfolding digits tonnes_label
 bound_in_tonnes = refl
 
 pub bound_alone : report_text (checked (verdicts.Unfinished None) (Some 40) None by_number) ≡ codes "unfinished none bound 40\n"
-unfolding digits
+unfolding digits tonnes_label
 bound_alone = refl
 
 pub without_a_bound : report_text (checked (verdicts.Unfinished (Some 7)) None None by_number) ≡ codes "unfinished 7\n"
-unfolding digits
+unfolding digits tonnes_label
 without_a_bound = refl
 
 -- a best timetable needs no bound
 pub no_bound_after : report_text (checked (verdicts.Optimal 40) (Some 41) None by_number) ≡ codes "optimal 40\n"
-unfolding digits
+unfolding digits tonnes_label
 no_bound_after = refl
 
 pub infeasible_without_bound : report_text (checked verdicts.Infeasible (Some 41) None by_number) ≡ codes "infeasible\n"
 infeasible_without_bound = refl
 
 pub a_demonstration : report_text (demo (Optimal 7) (Some 7) (verdicts.Optimal 7) 12) ≡ codes "optimal 7\ncheck optimal 7\nlemmas 12\nend\n"
-unfolding digits
+unfolding digits tonnes_label
 a_demonstration = refl
 
 pub an_unfinished_demonstration : report_text (demo (Unfinished 3) None (verdicts.Unfinished None) 3) ≡ codes "unfinished 3 none\ncheck unfinished none\nlemmas 3\nend\n"
-unfolding digits
+unfolding digits tonnes_label
 an_unfinished_demonstration = refl
 
 pub no_demonstration : report_text (demo Memory (Some 7) (verdicts.Optimal 7) 12) ≡ codes "memory\n"
 no_demonstration = refl
 
 pub a_bad_word : report_text (bad_words 4) ≡ codes "words 4\n"
-unfolding digits
+unfolding digits tonnes_label
 a_bad_word = refl
 
 pub a_bad_line : report_text (bad_flat 4 flats.Rule) ≡ codes "bad flat 4 rule\n"
-unfolding digits
+unfolding digits tonnes_label
 a_bad_line = refl
 
 pub no_json : report_text bad_json ≡ codes "bad instance json\n"
 no_json = refl
 
 pub a_draft : report_text (bad_field (record { path = record { field = 26; first = Some 0; second = None }; word = ports.Order })) ≡ codes "bad instance ships.0.deep order\n"
-unfolding digits path_text
+unfolding digits tonnes_label path_text
 a_draft = refl
 
 pub the_whole : report_text (bad_field (record { path = record { field = 0; first = None; second = None }; word = ports.Kind })) ≡ codes "bad instance root kind\n"
-unfolding digits path_text
+unfolding digits tonnes_label path_text
 the_whole = refl
 
 pub a_gap : report_text (bad_field (record { path = record { field = 12; first = Some 1; second = Some 20 }; word = ports.Range })) ≡ codes "bad instance separation.1.20 range\n"
-unfolding digits path_text
+unfolding digits tonnes_label path_text
 a_gap = refl
 
 pub staying : report_text (bad_field (record { path = record { field = 44; first = Some 39; second = None }; word = ports.Missing })) ≡ codes "bad instance ships.39.may_stay missing\n"
-unfolding digits path_text
+unfolding digits tonnes_label path_text
 staying = refl
 
 pub a_tide_header : report_text (bad_tides (tide_faults.Header 2)) ≡ codes "bad tides header 2\n"
-unfolding digits
+unfolding digits tonnes_label
 a_tide_header = refl
 
 pub a_tide_length : report_text (bad_tides (tide_faults.Length 3)) ≡ codes "bad tides length 3\n"
-unfolding digits
+unfolding digits tonnes_label
 a_tide_length = refl
 
 pub a_tide_field : report_text (bad_tides (tide_faults.Field 2 1)) ≡ codes "bad tides field 2 1\n"
-unfolding digits
+unfolding digits tonnes_label
 a_tide_field = refl
 
 pub no_tides : report_text (bad_tides tide_faults.Few) ≡ codes "bad tides few\n"
 no_tides = refl
 
 pub a_wrong_spelling : report_text (refused 5 (Form forms.Normal) None) ≡ codes "refused 5 normal\n"
-unfolding digits
+unfolding digits tonnes_label
 a_wrong_spelling = refl
 
 pub a_loose_hint : report_text (refused 6 (Check checks.Loose) (Some 3)) ≡ codes "refused 6 loose 3\n"
-unfolding digits
+unfolding digits tonnes_label
 a_loose_hint = refl
 
 pub a_dead_clause : report_text (refused 5 (Check checks.Dead) (Some 1)) ≡ codes "refused 5 dead 1\n"
-unfolding digits
+unfolding digits tonnes_label
 a_dead_clause = refl
 
 pub not_a_toll : report_text (refused 2 (Check checks.Toll) None) ≡ codes "refused 2 toll\n"
-unfolding digits
+unfolding digits tonnes_label
 not_a_toll = refl
 
 pub a_later_toll : report_text (refused 4 (Check checks.Due) (Some 2)) ≡ codes "refused 4 due 2\n"
-unfolding digits
+unfolding digits tonnes_label
 a_later_toll = refl
 
 pub no_prices_in_force : report_text (refused 4 (Check checks.Due) None) ≡ codes "refused 4 due\n"
-unfolding digits
+unfolding digits tonnes_label
 no_prices_in_force = refl
 
 pub a_looser_bound : report_text (refused 7 (Check checks.Looser) None) ≡ codes "refused 7 looser\n"
-unfolding digits
+unfolding digits tonnes_label
 a_looser_bound = refl
 
 -- a word that names no number has none after it
 pub no_number_after : report_text (refused 3 (Check checks.Worse) (Some 9)) ≡ codes "refused 3 worse\n"
-unfolding digits
+unfolding digits tonnes_label
 no_number_after = refl
 
 pub a_fault : report_text (read_fault feeds.Certificate) ≡ codes "fault read certificate\n"
@@ -181,105 +182,105 @@ pub want_of_memory : report_text no_memory ≡ codes "memory\n"
 want_of_memory = refl
 
 pub a_repair : report_text (solved (Optimal 228_000) (flattened (small true) tides) by_number (Some (0 ∷ [])) (Some 1) None) ≡ codes "optimal 228000\nmoved 1\nsail 0 228000 0\nend\n"
-unfolding digits
+unfolding digits tonnes_label
 a_repair = refl
 
 pub no_repair : report_text (solved Infeasible (flattened (small true) tides) by_number None (Some 0) None) ≡ codes "infeasible\nend\n"
 no_repair = refl
 
 pub cape_grace_moved : report_text (solved (Optimal 228_000) (flattened (small false) tides) (by_name (small false) tides) (Some (0 ∷ [])) (Some 1) None) ≡ codes "optimal 22800.0\nmoved 1\nsail 0 0 1590 22800.0 Cape Grace\nend\n"
-unfolding digits sail_line
+unfolding digits tonnes_label sail_line
 cape_grace_moved = refl
 
 pub moved_in_tonnes : report_text (checked (verdicts.Unfinished (Some 121)) None (Some 2) (by_name (small true) tides)) ≡ codes "unfinished 4.0 moved 1\n"
-unfolding digits
+unfolding digits tonnes_label
 moved_in_tonnes = refl
 
 pub a_repair's_verdict : report_text (checked (verdicts.Optimal 121) None (Some 2) by_number) ≡ codes "optimal 40 moved 1\n"
-unfolding digits
+unfolding digits tonnes_label
 a_repair's_verdict = refl
 
 pub a_repair's_bound : report_text (checked (verdicts.Unfinished (Some 121)) (Some 152) (Some 2) by_number) ≡ codes "unfinished 40 moved 1 bound 50\n"
-unfolding digits
+unfolding digits tonnes_label
 a_repair's_bound = refl
 
 pub no_repair_but_a_bound : report_text (checked (verdicts.Unfinished None) (Some 121) (Some 2) (by_name (small true) tides)) ≡ codes "unfinished none bound 4.0\n"
-unfolding digits
+unfolding digits tonnes_label
 no_repair_but_a_bound = refl
 
 pub no_repair_shown : report_text (checked verdicts.Infeasible (Some 121) (Some 2) by_number) ≡ codes "infeasible\n"
 no_repair_shown = refl
 
 pub a_bad_plan : report_text (bad_text feeds.Plan 4 (codes "table")) ≡ codes "bad plan 4 table\n"
-unfolding digits
+unfolding digits tonnes_label
 a_bad_plan = refl
 
 pub a_clash : report_text (clashed (2 ∷ 3 ∷ []) ((1 ∷ 1 ∷ []) ∷ (0 ∷ 1 ∷ []) ∷ [])) ≡ codes "clash 1\nkeep 2 3\ndrop 2 1 1\ndrop 3 0 1\nend\n"
-unfolding digits
+unfolding digits tonnes_label
 a_clash = refl
 
 pub no_clash : report_text (met (0 ∷ 2 ∷ [])) ≡ codes "met 0 2\n"
-unfolding digits
+unfolding digits tonnes_label
 no_clash = refl
 
 pub a_spent_step : report_text (spent_step 28 3) ≡ codes "unfinished 28 step 3\n"
-unfolding digits
+unfolding digits tonnes_label
 a_spent_step = refl
 
 pub a_clash_holds : report_text clash_holds ≡ codes "clash holds\n"
 a_clash_holds = refl
 
 pub a_split : report_text (parts_told 16 240) ≡ codes "parts 16 tolls 240\n"
-unfolding digits
+unfolding digits tonnes_label
 a_split = refl
 
 pub a_closed_part : report_text (part_told 12 true) ≡ codes "part 12 closed\n"
-unfolding digits
+unfolding digits tonnes_label
 a_closed_part = refl
 
 pub an_open_part : report_text (part_told 3 false) ≡ codes "part 3 open\n"
-unfolding digits
+unfolding digits tonnes_label
 an_open_part = refl
 
 pub the_first_open_part : report_text (open_part 3) ≡ codes "open 3\n"
-unfolding digits
+unfolding digits tonnes_label
 the_first_open_part = refl
 
 pub nothing_broken : report_text (after 0 []) ≡ codes "after 0 none\n"
-unfolding digits
+unfolding digits tonnes_label
 nothing_broken = refl
 
 pub some_broken : report_text (after 2 (0 ∷ 1 ∷ [])) ≡ codes "after 2 0 1\n"
-unfolding digits
+unfolding digits tonnes_label
 some_broken = refl
 
 pub the_audit_ends : report_text audit_end ≡ codes "end\n"
 the_audit_ends = refl
 
 pub a_bound_below : report_text (solved (Unfinished 7) (flattened (small false) tides) (by_name (small false) tides) (Some (0 ∷ [])) None (Some 4_084_107)) ≡ codes "unfinished 7 best 22800.0\nbound 408410.7\nsail 0 0 1590 22800.0 Cape Grace\nend\n"
-unfolding digits sail_line
+unfolding digits tonnes_label sail_line
 a_bound_below = refl
 
 pub a_bound_by_number : report_text (solved (Unfinished 7) (flattened (small true) tides) by_number (Some (2 ∷ [])) None (Some 50)) ≡ codes "unfinished 7 best 0\nbound 50\nstay 0\nend\n"
-unfolding digits
+unfolding digits tonnes_label
 a_bound_by_number = refl
 
 pub a_bound_of_none_found : report_text (solved (Unfinished 30) (flattened (small true) tides) by_number None None (Some 50)) ≡ codes "unfinished 30 none\nbound 50\nend\n"
-unfolding digits
+unfolding digits tonnes_label
 a_bound_of_none_found = refl
 
 pub a_bounded_repair : report_text (solved (Unfinished 7) (flattened (small true) tides) by_number (Some (0 ∷ [])) (Some 1) (Some 228_001)) ≡ codes "unfinished 7 best 228000\nbound 228001\nmoved 1\nsail 0 228000 0\nend\n"
-unfolding digits
+unfolding digits tonnes_label
 a_bounded_repair = refl
 
 -- none moves where there is no timetable
 pub no_timetable_moved : report_text (solved (Unfinished 7) (flattened (small true) tides) by_number None (Some 1) None) ≡ codes "unfinished 7 none\nend\n"
-unfolding digits
+unfolding digits tonnes_label
 no_timetable_moved = refl
 
 -- a best timetable needs no bound
 pub proved_best : report_text (solved (Optimal 228_000) (flattened (small false) tides) by_number (Some (0 ∷ [])) None (Some 228_000)) ≡ codes "optimal 228000\nsail 0 228000 0\nend\n"
-unfolding digits
+unfolding digits tonnes_label
 proved_best = refl
 
 pub proved_infeasible : report_text (solved Infeasible (flattened (small true) tides) by_number None None (Some 50)) ≡ codes "infeasible\nend\n"
