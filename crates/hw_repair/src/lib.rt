@@ -15,6 +15,7 @@ mod moving;
 mod plan;
 mod reading;
 mod repairing;
+mod timed_forms;
 
 pub use carrying::{own_cargo, own_moved, plan_cargo};
 pub use fault::{PlanFault, PlanWord};
