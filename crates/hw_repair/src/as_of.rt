@@ -59,8 +59,8 @@ fn over_rule(alloc: Global, v: ShipId, w: ShipId) -> Result<Rule, NoMemory>
     ensures { IfOk result (λ rule. rule ≡ over_rule v w) }
 {
     let never = Hole {
-        lo: MOST_DIFFERENCE,
-        hi: MOST_DIFFERENCE,
+        lo: MOST_DIFFERENCE as i32,
+        hi: MOST_DIFFERENCE as i32,
     };
     let items = Vec::from_slice(alloc, &[never])?;
     Ok(Rule::Pair {
