@@ -209,7 +209,7 @@ none_large p a zero none = refl
 none_large p a (suc n) none = rw (none a, none_large p (a + 1) n none) refl
 
 small : (f : Problem) (plan : PlanParts) (ship : ℕ) → IsFlat f → PlanFits f plan → is_large f ship ≡ false
-small f plan ship flat fits = none_large (λ slot. nat_lt 1_000_000_000_000 (unwrap_or (value_at f ship slot) 0 * (f.ships + 1) + 1)) 0 f.slots (λ slot. le-ltb _ _ (value_repairable f plan ship slot flat.few_ships fits))
+small f plan ship flat fits = none_large (λ slot. nat_lt 1_000_000_000_000 (unwrap_or (value_at f ship slot) 0 * (f.ships + 1) + 1)) 0 f.slots (λ slot. le-ltb _ _ (value_repairable f ship slot flat.few_ships fits.each_value))
 
 -- ---- the lines in order
 
