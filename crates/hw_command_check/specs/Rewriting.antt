@@ -5,6 +5,7 @@ use Rattle.hw_desk.specs.State.{DeskState}
 use Rattle.hw_cert_lines.specs.declared.check.Verdict.{Verdict}
 use Rattle.hw_cert_laws.specs.Renewing.{renewed}
 use Rattle.hw_cert.specs.declared.version.Version.TheVariants.{Three}
+use Rattle.hw_repair.specs.Wishes.{PlanParts}
 use Rattle.hw_report.specs.Reports.{Report, Naming}
 use Rattle.hw_command.specs.Readings.{KeepsNone, ReadsCert}
 use Rattle.hw_command.specs.Sending.{SendsTo}
@@ -35,6 +36,6 @@ RenewsTo f cert proof old new (Checked (Err stop)) = ReadsCert Three KeepsNone f
 RenewsTo f cert proof old new WriteFailed = (read : ReadCert (Unit {0})) × (v : Verdict) × Rewrites f cert proof old new read v (Err tt)
 
 -- the report of an answer, unless a make or a write of Proof failed
-abbrev pub report_of_renewal : Naming → Option ℕ → Renewal → Option Report
-report_of_renewal names ships (Checked read) = Some (report_of_reading names ships read)
-report_of_renewal names ships WriteFailed = None
+abbrev pub report_of_renewal : Naming → Option PlanParts → Renewal → Option Report
+report_of_renewal names plan (Checked read) = Some (report_of_reading names plan read)
+report_of_renewal names plan WriteFailed = None
