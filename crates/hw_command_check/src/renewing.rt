@@ -13,7 +13,6 @@ ghost use Rattle.hw_desk.specs.declared.desk.Tray.TheVariants.{Proof};
 ghost use Rattle.hw_report.specs.Printing.{CanPrint};
 ghost use Rattle.hw_report.specs.Seen.{report_seen};
 ghost use Rattle.hw_command.specs.Carries.{Carries};
-ghost use Rattle.hw_subject.specs.Meanings.{repair_ships};
 ghost use Rattle.hw_subject.specs.Reading.{naming_of, plan_in};
 ghost use Rattle.hw_subject.specs.Subjects.{subject_of};
 ghost use Rattle.hw_command_check.specs.Renews.{renew_task};
@@ -140,7 +139,7 @@ fn is_plain(line: &Line) -> bool
 
 /// The report of what comes of a certificate, or none if Proof failed: then nothing more is sent.
 fn renewal_report<'a>(renewal: Renewal<'_>, given: &'a Given) -> Option<Report<'a>>
-    ensures value { option_map report_seen result ≡ report_of_renewal (naming_of given.now.named) (repair_ships given.now.flat (plan_in given.now.repair)) renewal.entry }
+    ensures value { option_map report_seen result ≡ report_of_renewal (naming_of given.now.named) (plan_in given.now.repair) renewal.entry }
     ensures printed { IfSome result (λ report. CanPrint (report_seen report)) }
 {
     match renewal {

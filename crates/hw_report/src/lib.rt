@@ -12,7 +12,9 @@ mod refusals;
 mod report;
 mod reporting;
 mod shown;
+mod tables;
 mod words;
 
 pub use report::{Head, Names, RefusedWord, Report};
 pub use reporting::print_report;
+pub use shown::own_worth;
