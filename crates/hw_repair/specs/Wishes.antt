@@ -1,5 +1,5 @@
 -- Plans: what each wish says, from when on a plan judges, which timetables meet it, what they carry, and how many ships they move.
-use Rattle.std.specs.Prelude.{◌≡◌, ◌≢◌, ◌==◌, ℕ, ◌+◌, ◌-◌, ◌*◌, ◌<◌, ◌≤◌, Bool, true, false, ◌&&◌, not, nat_le, if◌then◌else◌, List, [], ◌∷◌, length, All, count_by, sum_by, zip, Option, Some, None, unwrap_or, slice_get, slice_index, is_some, IsSome, IfSome, IsTrue, ⊤}
+use Rattle.std.specs.Prelude.{◌≡◌, ◌≢◌, ◌==◌, ℕ, ◌+◌, ◌-◌, ◌*◌, ◌<◌, ◌≤◌, Bool, true, false, ◌&&◌, not, nat_le, nat_lt, if◌then◌else◌, List, [], ◌∷◌, length, All, count_by, sum_by, zip, Option, Some, None, unwrap_or, slice_get, slice_index, is_some, IsSome, IfSome, IsTrue, ⊤}
 use Rattle.hw_model.specs.declared.limits.TheConstants.{MOST_VALUE, MOST_PLAIN_FLEET}
 use Rattle.hw_model.specs.declared.rule.Job.{Job}
 use Rattle.hw_model.specs.declared.rule.Rule.{Rule}

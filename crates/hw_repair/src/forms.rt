@@ -1,4 +1,4 @@
-//! The forms of a plan's lines.
+//! The forms of the lines of plans of the whole day, and what values can be repaired.
 
 ghost use Rattle.std.specs.Prelude.{◌≡◌, ◌<◌, nat_le};
 ghost use Rattle.std.specs.List.{list_all, list_any};

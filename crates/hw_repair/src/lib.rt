@@ -12,6 +12,7 @@ mod moving;
 mod plan;
 mod reading;
 mod repairing;
+mod timed_forms;
 
 pub use fault::{PlanFault, PlanWord};
 pub use laws::{
@@ -19,6 +20,6 @@ pub use laws::{
     repaired_meets, repaired_permits, repaired_value, written_reads, written_rows,
 };
 pub use moving::moved;
-pub use plan::{Plan, Wish};
+pub use plan::{Judged, Plan, Wish};
 pub use reading::read_plan;
 pub use repairing::repaired;
