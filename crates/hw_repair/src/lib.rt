@@ -5,8 +5,11 @@
 //! checked, without a word on plans.
 #![tactic(auto)]
 
+mod as_of;
+mod carrying;
 mod fault;
 mod forms;
+mod gone;
 mod laws;
 mod moving;
 mod plan;
@@ -14,12 +17,14 @@ mod reading;
 mod repairing;
 mod timed_forms;
 
+pub use carrying::{own_cargo, own_moved, plan_cargo};
 pub use fault::{PlanFault, PlanWord};
+pub use gone::is_gone;
 pub use laws::{
     best_repair, none_repair, plan_rows, repair_rows, repaired_cargo, repaired_fits,
     repaired_meets, repaired_permits, repaired_value, written_reads, written_rows,
 };
-pub use moving::moved;
+pub use moving::{counted, moved};
 pub use plan::{Judged, Plan, Wish};
 pub use reading::read_plan;
 pub use repairing::repaired;

@@ -1,19 +1,19 @@
-//! How many ships a timetable moves.
+//! How many ships a timetable moves, of those that have a slot to keep.
 
 ghost use Rattle.std.specs.Prelude.{◌≡◌, ◌≤◌, length};
-ghost use Rattle.hw_repair.specs.Wishes.{wished, moved};
+ghost use Rattle.hw_repair.specs.Wishes.{is_other, wished, moved, counted};
 
 use crate::plan::{Plan, Wish};
 use hw_flat::Timetable;
-use hw_model::Slot;
+use hw_model::{MOST_SHIPS, Slot};
 
-/// The slot in which the ship has sailed, or for which it was planned.
-fn wished(wish: &Wish) -> Slot
-    ensures { result ≡ wished wish.now }
+/// Whether the slot is another one than the wish's, which it isn't where the wish has none.
+fn is_other(wish: Wish, slot: Slot) -> bool
+    ensures { result ≡ is_other (wished wish) slot }
 {
-    match wish {
-        Wish::Kept { slot } => *slot,
-        Wish::Planned { slot, .. } => *slot,
+    match wish.wished() {
+        None => false,
+        Some(wanted) => slot != wanted,
     }
 }
 
@@ -26,7 +26,24 @@ pub fn moved(plan: &Plan, table: &Timetable) -> u32
     let wishes: &[Wish] = &plan.wishes;
     let mut count = 0;
     for ship in 0..table.len() {
-        if table.slot(ship) != wished(&wishes[ship as usize]) {
+        if is_other(wishes[ship as usize], table.slot(ship)) {
+            count += 1;
+        }
+    }
+    count
+}
+
+/// The number of ships with a slot that they could keep: those that have sailed, that are fixed, or
+/// that were planned for a slot.
+pub fn counted(plan: &Plan) -> u32
+    requires few { length plan.now.wishes ≤ MOST_SHIPS }
+    ensures value { result ≡ counted plan.now }
+    ensures few { result ≤ length plan.now.wishes }
+{
+    let wishes: &[Wish] = &plan.wishes;
+    let mut count = 0;
+    for wish in wishes {
+        if wish.wished().is_some() {
             count += 1;
         }
     }

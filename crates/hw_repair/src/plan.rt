@@ -1,5 +1,8 @@
 //! A plan: from when on it judges and with which tugs, and a wish for each ship.
 
+ghost use Rattle.std.specs.Prelude.{◌≡◌};
+ghost use Rattle.hw_repair.specs.Wishes.{wished};
+
 use hw_model::{Slot, Steps};
 use std::marker::Model;
 
@@ -15,6 +18,21 @@ pub enum Wish {
     /// No slot was published for the ship, and it may be given `from` or a later one. In plans that
     /// know the time alone.
     New { from: Slot },
+}
+
+impl Wish {
+    /// The slot in which the ship has sailed, for which it is fixed, or for which it was planned; none
+    /// where none was published.
+    pub fn wished(self) -> Option<Slot>
+        ensures { result ≡ wished self }
+    {
+        match self {
+            Wish::Kept { slot } => Some(slot),
+            Wish::Fixed { slot } => Some(slot),
+            Wish::Planned { slot, .. } => Some(slot),
+            Wish::New { .. } => None,
+        }
+    }
 }
 
 /// What a plan judges: versions 1 and 2 the whole day, version 3 what is left of it.

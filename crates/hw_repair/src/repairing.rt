@@ -1,16 +1,16 @@
 //! The problem of a plan's repair.
 
-ghost use Rattle.std.specs.Prelude.{◌≡◌, ◌==◌, ◌<◌, ◌≤◌, ◌++◌, IfOk, OnOk, map, unwrap_or};
-ghost use Rattle.hw_plan_texts.specs.Fleets.{lessened_rule};
+ghost use Rattle.std.specs.Prelude.{◌≡◌, ◌<◌, ◌≤◌, ◌++◌, IfOk, OnOk, unwrap_or};
 ghost use Rattle.hw_plan_texts.specs.Grids.{row_of, grid_of_values};
 ghost use Rattle.hw_flat.specs.TextWritten.{IsWritable};
-ghost use Rattle.hw_repair.specs.Wishes.{grants, wished, PlanFits, IsRepairable};
-ghost use Rattle.hw_repair.specs.Repaired.{repaired_value, value_by, repaired};
+ghost use Rattle.hw_repair.specs.AsOf.{left_by};
+ghost use Rattle.hw_repair.specs.Wishes.{grants, PlanFits, IsRepairable};
+ghost use Rattle.hw_repair.specs.Repaired.{is_wished, repaired_value, value_by, repaired};
 
+use crate::as_of::{rules_left, value_left};
 use crate::plan::{Plan, Wish};
 use hw_flat::Flat;
 use hw_model::{MOST_SHIPS, NoMemory, Rule, ShipId, Slot};
-use hw_plan_texts::lessened_rules;
 use std::alloc::{AllocError, Global};
 
 /// Whether the wish grants a slot.
@@ -19,17 +19,19 @@ fn grants(wish: Wish, slot: Slot) -> bool
 {
     match wish {
         Wish::Kept { slot: sailed } => slot == sailed,
+        Wish::Fixed { slot: fixed } => slot == fixed,
         Wish::Planned { from, .. } => from <= slot,
+        Wish::New { from } => from <= slot,
     }
 }
 
 /// Whether the slot is the wish's.
 fn is_wished(wish: Wish, slot: Slot) -> bool
-    ensures { result ≡ slot == wished wish }
+    ensures { result ≡ is_wished wish slot }
 {
-    match wish {
-        Wish::Kept { slot: kept } => slot == kept,
-        Wish::Planned { slot: planned, .. } => slot == planned,
+    match wish.wished() {
+        None => false,
+        Some(wanted) => slot == wanted,
     }
 }
 
@@ -56,13 +58,13 @@ fn put_row(
 ) -> Result<(), AllocError>
     requires ship_in { ship < flat.now.ships }
     requires fits { PlanFits flat.now plan.now }
-    ensures { OnOk result (out.new.items ≡ out.old.items ++ row_of (value_by flat.now plan.now) flat.now.slots ship) }
+    ensures { OnOk result (out.new.items ≡ out.old.items ++ row_of (value_by (left_by flat.now plan.now) plan.now.wishes) flat.now.slots ship) }
 {
     let shape = flat.shape();
     let wishes: &[Wish] = &plan.wishes;
     let wish = wishes[ship as usize];
     for slot in 0..shape.slots {
-        let value = flat.value(ship, slot);
+        let value = value_left(flat, plan, ship, slot);
         out.push(repaired_value(shape.ships, wish, slot, value))?;
     }
     Ok(())
@@ -71,7 +73,7 @@ fn put_row(
 /// The values of all ships.
 fn repaired_rows(alloc: Global, flat: &Flat, plan: &Plan) -> Result<Vec<Option<u64>>, NoMemory>
     requires fits { PlanFits flat.now plan.now }
-    ensures { IfOk result (λ values. values.items ≡ grid_of_values (value_by flat.now plan.now) flat.now.ships flat.now.slots) }
+    ensures { IfOk result (λ values. values.items ≡ grid_of_values (value_by (left_by flat.now plan.now) plan.now.wishes) flat.now.ships flat.now.slots) }
 {
     let shape = flat.shape();
     let mut values = Vec::new(alloc);
@@ -85,8 +87,8 @@ fn repaired_rows(alloc: Global, flat: &Flat, plan: &Plan) -> Result<Vec<Option<u
 fn assembled(flat: &Flat, plan: &Plan, values: Vec<Option<u64>>, rules: Vec<Rule>) -> Flat
     requires fits { PlanFits flat.now plan.now }
     requires writable { IsWritable flat.now }
-    requires values { values.items ≡ grid_of_values (value_by flat.now plan.now) flat.now.ships flat.now.slots }
-    requires rules { rules.items ≡ map (lessened_rule plan.now.withdrawn) flat.now.rules }
+    requires values { values.items ≡ grid_of_values (value_by (left_by flat.now plan.now) plan.now.wishes) flat.now.ships flat.now.slots }
+    requires rules { rules.items ≡ (left_by flat.now plan.now).rules }
     ensures { result ≡ repaired flat.now plan.now }
 {
     let shape = flat.shape();
@@ -100,9 +102,9 @@ fn assembled(flat: &Flat, plan: &Plan, values: Vec<Option<u64>>, rules: Vec<Rule
 }
 
 /// The problem of a plan's repair. A ship has no value in a slot that its wish doesn't grant;
-/// elsewhere its value is the problem's times one more than the number of ships, and 1 more in the
-/// wish's slot. Rules on tugs have the tugs that are left. A best timetable of it carries the greatest
-/// cargo, and of those moves the fewest ships.
+/// elsewhere its value is that in what the plan leaves of the problem, times one more than the number
+/// of ships, and 1 more in the wish's slot. The rules are those that the plan leaves. A best timetable
+/// of it carries the greatest cargo, and of those moves the fewest ships.
 ///
 /// It needs a problem that has a text: where ships may stay, each ship's value in the last slot is
 /// none or 0. It takes the time and the memory of a copy of the problem.
@@ -112,6 +114,6 @@ pub fn repaired(alloc: Global, flat: &Flat, plan: &Plan) -> Result<Flat, NoMemor
     ensures { IfOk result (λ made. made ≡ repaired flat.now plan.now) }
 {
     let values = repaired_rows(alloc, flat, plan)?;
-    let rules = lessened_rules(alloc, flat.rules(), plan.withdrawn)?;
+    let rules = rules_left(alloc, flat, plan)?;
     Ok(assembled(flat, plan, values, rules))
 }
