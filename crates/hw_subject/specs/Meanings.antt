@@ -82,8 +82,9 @@ VerdictSays s v (verdicts.Unfinished best) (Some table) = IsSomeAnd best (Stands
 
 -- ---- why they are true
 
--- the plan fits, the judged problem keeps the limits and permits what the subject permits, which carries by the reported problem and the plan what it carries by the subject
+-- the reported problem keeps the limits, the plan fits it, and the judged problem keeps them too and permits what the subject permits, which carries by the reported problem and the plan what it carries by the subject
 pub record IsModelled (s : Subject) (v : s.Value) : Type 0 where
+  pub reported : IsFlat (s.problem v)
   pub fits : IfSome (s.plan v) (PlanFits (s.problem v))
   pub limits : IsFlat (judged s v)
   pub permitted : (table : List ℕ) → (s.Permits v table ↔ Permits (judged s v) table)
