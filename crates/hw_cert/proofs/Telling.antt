@@ -21,7 +21,7 @@ use Rattle.hw_cert.specs.Texts.{line_words, line_text}
 use Rattle.hw_cert.specs.Spelled.{spelled, spelled_line}
 use Rattle.hw_cert.specs.Laws.{line_numbers, wide_numbers, is_small, is_wide}
 use Rattle.hw_cert.specs.Logs.{LogTold, ended_text, IsWhole, TellsLine, TakesLine}
-use Rattle.hw_cert.specs.Told.{header_line_of, without_prefix, line_told, with_line, parts_told, lines_told, told_under, is_told_under, log_under}
+use Rattle.hw_cert.specs.Told.{header_line, without_prefix, line_told, with_line, parts_told, lines_told, bytes_told, is_told, log_of}
 use Rattle.hw_cert.proofs.ReadBack.{chained}
 use Rattle.hw_cert.proofs.Written.{line_again, word_count}
 use Rattle.hw_cert.proofs.LineBytes.{words_lack}
@@ -193,40 +193,40 @@ some_told (Some told) e = (told, refl)
 
 -- what is told after more bytes, and that it is told
 record Grown (version : Version) (P : LogTold → LogTold → Type 0) (x y : Option (List ℕ)) : Type 0 where
-  grows : IfSome (option_and_then (told_under version) y) (λ now. IsSomeAnd (option_and_then (told_under version) x) (λ was. P was now))
-  told : is_told_under version y ≡ true
+  grows : IfSome (option_and_then (bytes_told version) y) (λ now. IsSomeAnd (option_and_then (bytes_told version) x) (λ was. P was now))
+  told : is_told version y ≡ true
 
-grown : (version : Version) (P : LogTold → LogTold → Type 0) (x y : Option (List ℕ)) (more : List ℕ) → Steps P more → is_told_under version x ≡ true → IfSome (option_and_then (told_under version) x) (λ t. t.remainder ≡ []) → Tells y (append_known x more) → Grown version P x y
+grown : (version : Version) (P : LogTold → LogTold → Type 0) (x y : Option (List ℕ)) (more : List ℕ) → Steps P more → is_told version x ≡ true → IfSome (option_and_then (bytes_told version) x) (λ t. t.remainder ≡ []) → Tells y (append_known x more) → Grown version P x y
 grown version P x None more f told whole t = record { grows = tt; told = refl }
 grown version P None (Some ys) more f told whole t = absurd (cc)
 grown version P (Some xs) (Some ys) more f told whole t =
     let same : xs ++ more ≡ ys = cc in
-    let b = some_told (told_under version xs) told in
-    let p = chained lines_told (without_prefix (header_line_of version) xs) b.0 b.1 in
+    let b = some_told (bytes_told version xs) told in
+    let p = chained lines_told (without_prefix (header_line version) xs) b.0 b.1 in
     let none = subst (λ (o : Option LogTold). IfSome o (λ s. s.remainder ≡ [])) b.1 whole in
     let s = f p.0 b.0 p.2 none in
-    let new : told_under version ys ≡ Some s.0 = ap (told_under version) (sym same) ∙ ap (option_and_then lines_told) (prefix_more (header_line_of version) xs more p.0 p.1) ∙ s.1 in
+    let new : bytes_told version ys ≡ Some s.0 = ap (bytes_told version) (sym same) ∙ ap (option_and_then lines_told) (prefix_more (header_line version) xs more p.0 p.1) ∙ s.1 in
     record {
-      grows = subst (λ (o : Option LogTold). IfSome o (λ now. IsSomeAnd (told_under version xs) (λ was. P was now))) (sym new) (subst (λ (o : Option LogTold). IsSomeAnd o (λ was. P was s.0)) (sym b.1) s.2);
+      grows = subst (λ (o : Option LogTold). IfSome o (λ now. IsSomeAnd (bytes_told version xs) (λ was. P was now))) (sym new) (subst (λ (o : Option LogTold). IsSomeAnd o (λ was. P was s.0)) (sym b.1) s.2);
       told = ap is_some new;
     }
 
 -- a line that was sent is a line more
-whole_grown : {x y : DeskState} (version : Version) (line : Line) → list_all is_small (line_numbers line) ≡ true → list_all is_wide (wide_numbers line) ≡ true → is_told_under version (x.trays Proof).sent ≡ true → IsWhole (log_under version x) → Sends Proof (ended_text line) x y → Grown version (TellsLine line (Ok tt)) (x.trays Proof).sent (y.trays Proof).sent
+whole_grown : {x y : DeskState} (version : Version) (line : Line) → list_all is_small (line_numbers line) ≡ true → list_all is_wide (wide_numbers line) ≡ true → is_told version (x.trays Proof).sent ≡ true → IsWhole (log_of version x) → Sends Proof (ended_text line) x y → Grown version (TellsLine line (Ok tt)) (x.trays Proof).sent (y.trays Proof).sent
 whole_grown {x = x} {y = y} version line small wide told whole h = grown version (TellsLine line (Ok tt)) (x.trays Proof).sent (y.trays Proof).sent (ended_text line) (one_more line small wide) told whole h.sent
 
-pub logged : {E : Type 0} {x y : DeskState} {u : Unit {0}} (version : Version) (line : Line) → list_all is_small (line_numbers line) ≡ true → list_all is_wide (wide_numbers line) ≡ true → is_told_under version (x.trays Proof).sent ≡ true → IsWhole (log_under version x) → SendsText {E = E} Proof (ended_text line) x y (Ok u) → TakesLine line (log_under version x) (log_under version y) (Ok tt)
+pub logged : {E : Type 0} {x y : DeskState} {u : Unit {0}} (version : Version) (line : Line) → list_all is_small (line_numbers line) ≡ true → list_all is_wide (wide_numbers line) ≡ true → is_told version (x.trays Proof).sent ≡ true → IsWhole (log_of version x) → SendsText {E = E} Proof (ended_text line) x y (Ok u) → TakesLine line (log_of version x) (log_of version y) (Ok tt)
 logged version line small wide told whole h = record { later = h.only.later; lines = (whole_grown version line small wide told whole h.ok).grows; cause = h.kept }
 
 -- a line that was sent in part follows the lines
-part_grown : {x y : DeskState} (version : Version) (line : Line) (n : ℕ) → n < length (ended_text line) → list_all is_small (line_numbers line) ≡ true → list_all is_wide (wide_numbers line) ≡ true → is_told_under version (x.trays Proof).sent ≡ true → IsWhole (log_under version x) → Sends Proof (take n (ended_text line)) x y → Grown version (TellsLine line (Err Failed)) (x.trays Proof).sent (y.trays Proof).sent
+part_grown : {x y : DeskState} (version : Version) (line : Line) (n : ℕ) → n < length (ended_text line) → list_all is_small (line_numbers line) ≡ true → list_all is_wide (wide_numbers line) ≡ true → is_told version (x.trays Proof).sent ≡ true → IsWhole (log_of version x) → Sends Proof (take n (ended_text line)) x y → Grown version (TellsLine line (Err Failed)) (x.trays Proof).sent (y.trays Proof).sent
 part_grown {x = x} {y = y} version line n lt small wide told whole h = grown version (TellsLine line (Err Failed)) (x.trays Proof).sent (y.trays Proof).sent (take n (ended_text line)) (one_begun line n small wide lt) told whole h.sent
 
-pub log_failed : {E : Type 0} {x y : DeskState} {e : E} (version : Version) (line : Line) → list_all is_small (line_numbers line) ≡ true → list_all is_wide (wide_numbers line) ≡ true → is_told_under version (x.trays Proof).sent ≡ true → IsWhole (log_under version x) → SendsText {E = E} Proof (ended_text line) x y (Err e) → TakesLine line (log_under version x) (log_under version y) (Err Failed)
+pub log_failed : {E : Type 0} {x y : DeskState} {e : E} (version : Version) (line : Line) → list_all is_small (line_numbers line) ≡ true → list_all is_wide (wide_numbers line) ≡ true → is_told version (x.trays Proof).sent ≡ true → IsWhole (log_of version x) → SendsText {E = E} Proof (ended_text line) x y (Err e) → TakesLine line (log_of version x) (log_of version y) (Err Failed)
 log_failed version line small wide told whole h = record { later = h.only.later; lines = (part_grown version line h.err.0 h.err.1 small wide told whole h.err.2).grows; cause = h.cause }
 
 -- whatever of a line was sent, what was sent is still the header, whole lines and bytes after them
-pub still_told : {E : Type 0} {x y : DeskState} (version : Version) (line : Line) (r : Result Unit E) → list_all is_small (line_numbers line) ≡ true → list_all is_wide (wide_numbers line) ≡ true → IsWhole (log_under version x) → SendsText Proof (ended_text line) x y r → is_told_under version (x.trays Proof).sent ≡ true → is_told_under version (y.trays Proof).sent ≡ true
+pub still_told : {E : Type 0} {x y : DeskState} (version : Version) (line : Line) (r : Result Unit E) → list_all is_small (line_numbers line) ≡ true → list_all is_wide (wide_numbers line) ≡ true → IsWhole (log_of version x) → SendsText Proof (ended_text line) x y r → is_told version (x.trays Proof).sent ≡ true → is_told version (y.trays Proof).sent ≡ true
 still_told version line (Ok u) small wide whole h told = (whole_grown version line small wide told whole h.ok).told
 still_told version line (Err e) small wide whole h told = (part_grown version line h.err.0 h.err.1 small wide told whole h.err.2).told
 

@@ -11,11 +11,11 @@ use Rattle.hw_text.proofs.Joins.{parts_lack}
 use Rattle.hw_price_laws.specs.declared.toll.Toll.TheVariants.{Narrows}
 use Rattle.hw_cert_lines.specs.declared.line.Line.{Line}
 use Rattle.hw_cert_lines.specs.declared.line.Line.TheVariants.{Table, Delete, Toll}
-use Rattle.hw_cert.specs.declared.version.Version.TheVariants.{Two, Three}
+use Rattle.hw_cert.specs.declared.version.Version.TheVariants.{Three}
 use Rattle.hw_cert.specs.Texts.{line_text, certificate_header}
 use Rattle.hw_cert.specs.Spelled.{spelled}
 use Rattle.hw_cert.specs.Logs.{LogTold}
-use Rattle.hw_cert.specs.Told.{header_line_of, without_prefix, line_told, parts_told, lines_told, TextTold, EachTextTold}
+use Rattle.hw_cert.specs.Told.{header_line, without_prefix, line_told, parts_told, lines_told, TextTold}
 use Rattle.hw_cert.proofs.FormText.{form_read}
 use Rattle.hw_cert.proofs.ReadBack.{chained}
 use Rattle.hw_cert.proofs.Telling.{with_both}
@@ -66,16 +66,13 @@ prefix_is (p ∷ ps) (b ∷ bs) rest e = by (b == p) (λ t. grind (arith, t)) (p
     by true f g h = ap (λ (n : ℕ). n ∷ bs) (f refl) ∙ ap (λ (t : List ℕ). p ∷ t) (g h)
     by false f g h = absurd (cc)
 
-pub each_text_told : EachTextTold
-each_text_told version bytes told h =
-    let p = chained lines_told (without_prefix (header_line_of version) bytes) told h in
+pub text_told : TextTold
+text_told version bytes told h =
+    let p = chained lines_told (without_prefix (header_line version) bytes) told h in
     record {
-      text = prefix_is (header_line_of version) bytes p.0 p.1
-          ∙ ap (λ (rest : List ℕ). header_line_of version ++ rest) (sym (join_with_byte-slice_split 10 p.0) ∙ joined_told (parts_of 10 p.0) told p.2)
+      text = prefix_is (header_line version) bytes p.0 p.1
+          ∙ ap (λ (rest : List ℕ). header_line version ++ rest) (sym (join_with_byte-slice_split 10 p.0) ∙ joined_told (parts_of 10 p.0) told p.2)
           ∙ append_assoc (certificate_header version) (10 ∷ []) (ended_lines (map line_text told.lines) ++ told.remainder)
           ∙ sym (append_assoc (certificate_header version) (10 ∷ ended_lines (map line_text told.lines)) told.remainder);
       no_end = last_lacks (parts_of 10 p.0) told (parts_lack 10 p.0) p.2;
     }
-
-pub text_told : TextTold
-text_told = each_text_told Two

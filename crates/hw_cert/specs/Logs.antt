@@ -7,6 +7,7 @@ use Rattle.hw_desk.specs.State.{FeedState, TrayState, DeskState, Rose}
 use Rattle.hw_desk.specs.declared.desk.Feed.{Feed}
 use Rattle.hw_desk.specs.declared.desk.Tray.TheVariants.{Report, Proof}
 use Rattle.hw_cert.specs.declared.log.LogStop.{LogStop}
+use Rattle.hw_cert.specs.declared.version.Version.{Version}
 use Rattle.hw_cert.specs.declared.log.LogStop.TheVariants.{Failed, NoMemory}
 
 -- the lines so far, and the bytes after them
@@ -31,14 +32,15 @@ pub record Outside : Type 0 where
 abbrev pub outside_of : DeskState → Outside
 outside_of s = record { held = s.held; feeds = s.feeds; report = s.trays Report; made = (s.trays Proof).made; named = (s.trays Proof).name; read_faults = s.read_faults }
 
--- what a log holds and leaves as it is: the borrow, and all that is outside it, if it is over a desk
+-- what a log holds and leaves as it is: the borrow, and if it is over a desk, the version of its certificate and all that is outside it
 pub record LogAnchor : Type 0 where
   pub borrow : GName
+  pub version : Option Version
   pub outside : Option Outside
 
 -- a log over no desk
 abbrev pub unanchored : LogAnchor
-unanchored = record { borrow = 0; outside = None }
+unanchored = record { borrow = 0; version = None; outside = None }
 
 -- a condition on lines is met where they are untold
 abbrev pub WhereTold : LogModel → (LogTold → Type 0) → Type 0

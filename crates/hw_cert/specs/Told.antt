@@ -9,26 +9,18 @@ use Rattle.hw_cert_lines.specs.declared.line.Line.{Line}
 use Rattle.hw_price_laws.specs.declared.toll.Toll.TheVariants.{Narrows}
 use Rattle.hw_cert_lines.specs.declared.line.Line.TheVariants.{Table, Delete, Toll}
 use Rattle.hw_cert.specs.declared.version.Version.{Version}
-use Rattle.hw_cert.specs.declared.version.Version.TheVariants.{Two, Three}
+use Rattle.hw_cert.specs.declared.version.Version.TheVariants.{Three}
 use Rattle.hw_cert.specs.Texts.{certificate_header, cert_text}
 use Rattle.hw_cert.specs.Spelled.{spelled}
 use Rattle.hw_cert.specs.Logs.{LogAnchor, LogTold, LogModel, outside_of}
 
 -- the header's line of a version with its end
-abbrev pub header_line_of : Version → List ℕ
-header_line_of version = certificate_header version ++ 10 ∷ []
-
--- the same of the second version
-abbrev pub header_line : List ℕ
-header_line = header_line_of Two
+abbrev pub header_line : Version → List ℕ
+header_line version = certificate_header version ++ 10 ∷ []
 
 -- the header of a version was not sent whole: a proper prefix of it was, and then a write failed
-abbrev pub FailsHeaderOf : Version → DeskState → DeskState → Type 0
-FailsHeaderOf version old new = ((n : ℕ) × (n < length (header_line_of version)) × Sends Proof (take n (header_line_of version)) old new) × Rose old.write_faults new.write_faults
-
--- the same of the second version
-abbrev pub FailsHeader : DeskState → DeskState → Type 0
-FailsHeader = FailsHeaderOf Two
+abbrev pub FailsHeader : Version → DeskState → DeskState → Type 0
+FailsHeader version old new = ((n : ℕ) × (n < length (header_line version)) × Sends Proof (take n (header_line version)) old new) × Rose old.write_faults new.write_faults
 
 -- the bytes after others, if they begin with those
 abbrev pub without_prefix : List ℕ → List ℕ → Option (List ℕ)
@@ -62,51 +54,27 @@ abbrev pub lines_told : List ℕ → Option LogTold
 lines_told bytes = parts_told (parts_of 10 bytes)
 
 -- what bytes tell, the header of this version first
-abbrev pub told_under : Version → List ℕ → Option LogTold
-told_under version bytes = option_and_then lines_told (without_prefix (header_line_of version) bytes)
-
--- the same of the second version
-abbrev pub bytes_told : List ℕ → Option LogTold
-bytes_told = told_under Two
+abbrev pub bytes_told : Version → List ℕ → Option LogTold
+bytes_told version bytes = option_and_then lines_told (without_prefix (header_line version) bytes)
 
 -- what was sent is the header of this version, whole lines and bytes after them, where it is told
-abbrev pub is_told_under : Version → Option (List ℕ) → Bool
-is_told_under version None = true
-is_told_under version (Some bytes) = is_some (told_under version bytes)
-
--- the same of the second version
-abbrev pub is_told : Option (List ℕ) → Bool
-is_told = is_told_under Two
+abbrev pub is_told : Version → Option (List ℕ) → Bool
+is_told version None = true
+is_told version (Some bytes) = is_some (bytes_told version bytes)
 
 -- bytes that are the text of these lines in a certificate of this version, and after it bytes without a line feed
-pub record IsTextUnder (version : Version) (told : LogTold) (bytes : List ℕ) : Type 0 where
+pub record IsTextOf (version : Version) (told : LogTold) (bytes : List ℕ) : Type 0 where
   pub text : bytes ≡ cert_text version told.lines ++ told.remainder
   pub no_end : lacks 10 told.remainder ≡ true
 
--- the same of the second version
-abbrev pub IsTextOf : LogTold → List ℕ → Type 0
-IsTextOf = IsTextUnder Two
-
 -- bytes tell lines under a version only where they are the text of these
-abbrev pub TextToldUnder : Version → Type 0
-TextToldUnder version = (bytes : List ℕ) (told : LogTold) → told_under version bytes ≡ Some told → IsTextUnder version told bytes
-
--- the same of the second version
 abbrev pub TextTold : Type 0
-TextTold = TextToldUnder Two
-
--- the same of each version
-abbrev pub EachTextTold : Type 0
-EachTextTold = (version : Version) → TextToldUnder version
+TextTold = (version : Version) (bytes : List ℕ) (told : LogTold) → bytes_told version bytes ≡ Some told → IsTextOf version told bytes
 
 -- the log whose text a desk sent to Proof, in a certificate of this version
-abbrev pub log_under : Version → DeskState → LogModel
-log_under version s = record { told = option_and_then (told_under version) (s.trays Proof).sent; faults = s.write_faults }
+abbrev pub log_of : Version → DeskState → LogModel
+log_of version s = record { told = option_and_then (bytes_told version) (s.trays Proof).sent; faults = s.write_faults }
 
--- the same of the second version
-abbrev pub tray_log : DeskState → LogModel
-tray_log = log_under Two
-
--- what that log holds and leaves as it is: the borrow of its desk, and all of the desk that no line changes
-abbrev pub tray_anchor : GName → DeskState → LogAnchor
-tray_anchor borrow s = record { borrow = borrow; outside = Some (outside_of s) }
+-- what that log holds and leaves as it is: the borrow of its desk, the version, and all of the desk that no line changes
+abbrev pub tray_anchor : GName → Version → DeskState → LogAnchor
+tray_anchor borrow version s = record { borrow = borrow; version = Some version; outside = Some (outside_of s) }

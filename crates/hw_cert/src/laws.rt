@@ -2,7 +2,7 @@
 
 ghost use Rattle.hw_cert.specs.Forms.{FormSpelled, ThirdReads, ThirdStreams, ValidReads, ValidStreams};
 ghost use Rattle.hw_cert.specs.Rows.{TextRows};
-ghost use Rattle.hw_cert.specs.Told.{EachTextTold, TextTold};
+ghost use Rattle.hw_cert.specs.Told.{TextTold};
 ghost use Rattle.hw_cert.specs.Laws.{LineSpelled, HeaderSpelled, CertSpelled, StreamSteps, StreamReads, OverlongPasses, PlainForms, ThirdForms, ReadForms, PlainRead};
 
 /// Bytes read as a line exactly where they are the line's one text.
@@ -62,14 +62,10 @@ pub fn third_streams()
     ensures { ThirdStreams }
 {}
 
-/// Bytes that tell lines are the text of these lines, and after it bytes without a line feed.
+/// Bytes that tell lines under a version are the text of these lines, and after it bytes without a line
+/// feed.
 pub fn text_told()
     ensures { TextTold }
-{}
-
-/// The same of the bytes of each version.
-pub fn each_text_told()
-    ensures { EachTextTold }
 {}
 
 /// The second version has the forms of plain lines.

@@ -6,7 +6,6 @@ mod laws;
 mod log;
 mod memory_log;
 mod pending;
-mod price_log;
 mod putting;
 mod reader;
 mod sending;
@@ -22,15 +21,14 @@ pub use fitting::{are_cheap, tolls_ascend};
 pub use hw_cert_lines::{CheckWord, Hints, Line, Refusal, Verdict};
 pub use hw_price_laws::{Block, Blocks, Due, Dues, Tariff, Toll, Weights};
 pub use laws::{
-    cert_spelled, each_text_told, form_spelled, header_spelled, line_spelled, overlong_passes,
-    plain_forms, plain_read, read_forms, stream_reads, stream_steps, text_rows, text_told,
-    third_forms, third_reads, third_streams, valid_reads, valid_streams,
+    cert_spelled, form_spelled, header_spelled, line_spelled, overlong_passes, plain_forms,
+    plain_read, read_forms, stream_reads, stream_steps, text_rows, text_told, third_forms,
+    third_reads, third_streams, valid_reads, valid_streams,
 };
 pub use log::{Log, LogStop};
 pub use memory_log::MemoryLog;
-pub use price_log::PriceLog;
 pub use reader::{LineReader, Next};
-pub use sending::{send_cert, send_header_of};
+pub use sending::{send_cert, send_header};
 pub use stop::{FormWord, LineStop};
-pub use tray_log::{HeaderFailed, TrayLog, send_header};
+pub use tray_log::{HeaderFailed, TrayLog};
 pub use version::Version;

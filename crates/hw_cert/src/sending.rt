@@ -9,7 +9,7 @@ ghost use Rattle.hw_text.specs.Parts.{ended_lines};
 ghost use Rattle.hw_cert.specs.Laws.{is_small, is_wide, line_numbers, wide_numbers};
 ghost use Rattle.hw_cert.specs.Logs.{IsEmpty, ended_text};
 ghost use Rattle.hw_cert.specs.Texts.{cert_text, line_text};
-ghost use Rattle.hw_cert.specs.Told.{header_line_of, is_told_under, log_under};
+ghost use Rattle.hw_cert.specs.Told.{header_line, is_told, log_of};
 
 use crate::putting::put_line;
 use crate::version::Version;
@@ -27,21 +27,21 @@ fn put_lines<W: Writer>(out: &mut W, lines: &[Line])
     }
 }
 
-/// Sends a certificate with deletions, its header and these lines, in as few writes as the writer's
-/// buffer allows. It takes no memory. After a failure a proper prefix of the text was sent.
-pub fn send_cert<D: Desk>(desk: &mut D, lines: &[Line]) -> Result<(), DeskFailed>
+/// Sends a certificate of a version, its header and these lines, in as few writes as the writer's buffer
+/// allows. It takes no memory. After a failure a proper prefix of the text was sent.
+pub fn send_cert<D: Desk>(desk: &mut D, version: Version, lines: &[Line]) -> Result<(), DeskFailed>
     requires made { CanSend Tray.Proof (D.state desk.old) }
-    ensures sends { SendsText Tray.Proof (cert_text Version.Two lines.now) (D.state desk.old) (D.state desk.new) result }
+    ensures sends { SendsText Tray.Proof (cert_text version lines.now) (D.state desk.old) (D.state desk.new) result }
 {
     let mut out = TrayWriter::new(desk, Tray::Proof);
-    out.put(b"cert 2\n");
+    out.put(header_line(version));
     put_lines(&mut out, lines);
     out.flush()
 }
 
 /// The header's line of a version, with its end.
 fn header_line(version: Version) -> &'static [u8]
-    ensures { result.now ≡ header_line_of version }
+    ensures { result.now ≡ header_line version }
 {
     match version {
         Version::One => b"cert 1\n",
@@ -51,12 +51,12 @@ fn header_line(version: Version) -> &'static [u8]
 }
 
 /// Sends the header of a certificate of a version, by a write of its own.
-pub fn send_header_of<D: Desk>(desk: &mut D, version: Version) -> Result<(), DeskFailed>
+pub fn send_header<D: Desk>(desk: &mut D, version: Version) -> Result<(), DeskFailed>
     requires made { ((D.state desk.old).trays Tray.Proof).made ≡ true }
     requires none { IfSome ((D.state desk.old).trays Tray.Proof).sent (λ bytes. bytes ≡ []) }
-    ensures sends { SendsText Tray.Proof (header_line_of version) (D.state desk.old) (D.state desk.new) result }
-    ensures told { OnOk result (is_told_under version ((D.state desk.new).trays Tray.Proof).sent ≡ true) }
-    ensures empty { OnOk result (IsEmpty (log_under version (D.state desk.new))) }
+    ensures sends { SendsText Tray.Proof (header_line version) (D.state desk.old) (D.state desk.new) result }
+    ensures told { OnOk result (is_told version ((D.state desk.new).trays Tray.Proof).sent ≡ true) }
+    ensures empty { OnOk result (IsEmpty (log_of version (D.state desk.new))) }
 {
     write_all(desk, Tray::Proof, header_line(version))
 }

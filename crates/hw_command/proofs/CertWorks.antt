@@ -1,5 +1,5 @@
 -- The work of a command that reads a certificate after its other inputs.
-use Rattle.std.proofs.Common.{◌≡◌, ◌++◌, ◌∙◌, ℕ, false, List, [], ◌∷◌, Option, Result, Ok, Err, append-nil, refl, sym}
+use Rattle.std.proofs.Common.{◌≡◌, ◌++◌, ◌∙◌, ℕ, false, List, [], ◌∷◌, Option, None, Result, Ok, Err, append-nil, refl, sym, ap, subst}
 use Rattle.hw_model.specs.Problem.{Problem}
 use Rattle.hw_desk.specs.State.{DeskState}
 use Rattle.hw_desk.specs.declared.desk.Feed.{Feed}
@@ -7,8 +7,9 @@ use Rattle.hw_desk.specs.declared.desk.Feed.TheVariants.{Certificate}
 use Rattle.hw_cert_lines.specs.declared.line.Line.{Line}
 use Rattle.hw_cert.specs.declared.version.Version.{Version}
 use Rattle.hw_repair.specs.Wishes.{PlanParts}
-use Rattle.hw_report.specs.Reports.{Naming}
+use Rattle.hw_report.specs.Reports.{Naming, Report}
 use Rattle.hw_command.specs.Certificates.{report_of, report_of_check}
+use Rattle.hw_command.specs.Ends.{Ends}
 use Rattle.hw_command.specs.Readings.{ReadsCert, outcome_in}
 use Rattle.hw_command.specs.Scope.{Named, named_feed, feed_is_among, GiveBefore, Entered}
 use Rattle.hw_command.specs.Works.{Works}
@@ -17,6 +18,7 @@ use Rattle.hw_command.specs.declared.outcome.CertOutcome.{CertOutcome}
 use Rattle.hw_command.specs.declared.outcome.CertOutcome.TheVariants.{Shows, Wrong, TooLong}
 use Rattle.hw_command.specs.declared.outcome.CertStop.{CertStop}
 use Rattle.hw_command.specs.declared.outcome.CertStop.TheVariants.{Fault, NoMemory}
+use Rattle.hw_command.specs.declared.status.Status.{Status}
 use Rattle.hw_command.proofs.Begun.{entered_on, answers, refuses, wants_memory, rose_on}
 
 -- the work up to the report of an outcome
@@ -30,3 +32,7 @@ pub cert_works : {K : Type 0} {Kept : K → List Line → Type 0} {most : Versio
 cert_works {before = before} {cert = cert} names bound plan proof (Ok read) h same new give m = outcome_works before cert names bound plan proof read.outcome (entered_on before h m.enters new) give (m.reads.0 ∙ same)
 cert_works {before = before} {cert = cert} names bound plan proof (Err Fault) h same new give m = refuses proof before (named_feed Certificate cert) [] _ (sym (append-nil _)) refl (entered_on before h m.enters new) give (rose_on same m.reads)
 cert_works {before = before} {cert = cert} names bound plan proof (Err NoMemory) h same new give m = wants_memory proof (before ++ named_feed Certificate cert ∷ []) [] (sym (append-nil _)) (entered_on before h m.enters new) give (m.reads ∙ same)
+
+-- the end with such a report, in the names of what was given
+pub ends_in : {own names : Naming} {r : Report} {x y : DeskState} {e : Status} (stopped : Result CertOutcome CertStop) → r ≡ report_of_check names None None stopped → names ≡ own → Ends (r ∷ []) x y e → Ends (report_of_check own None None stopped ∷ []) x y e
+ends_in {x = x} {y = y} {e = e} stopped is same ends = subst (λ (r : Report). Ends (r ∷ []) x y e) (is ∙ ap (λ (names : Naming). report_of_check names None None stopped) same) ends

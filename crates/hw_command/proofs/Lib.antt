@@ -10,9 +10,9 @@ pub mod Kept
 pub mod Taken
 pub mod Sendings
 pub mod OnProof
-mod Thirds
 pub mod Started
 pub mod SentWorks
+pub mod Exits
 pub mod PortForms
 pub mod Meanings
 pub mod Endings

@@ -13,6 +13,5 @@ pub mod Checking
 pub mod Keeping
 pub mod Readings
 pub mod Sending
-pub mod Third
 pub mod Starting
 pub mod WorkEnds

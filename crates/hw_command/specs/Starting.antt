@@ -1,5 +1,5 @@
 -- A certificate of any version that is read before a command goes on from it, and why it can't.
-use Rattle.std.specs.Prelude.{◌≡◌, ℕ, Bool, true, false, List, Result, Ok, Err, ⊤}
+use Rattle.std.specs.Prelude.{◌≡◌, ◌⊎◌, ℕ, Bool, true, false, List, Result, Ok, Err, ⊤}
 use Rattle.hw_model.specs.Problem.{Problem}
 use Rattle.hw_desk.specs.State.{DeskState}
 use Rattle.hw_cert_lines.specs.declared.check.Verdict.{Verdict}
@@ -40,11 +40,20 @@ abbrev pub ShowsNothing : Result CertOutcome CertStop → Type 0
 ShowsNothing (Ok outcome) = shows_nothing outcome ≡ true
 ShowsNothing (Err stop) = ⊤
 
+-- why nothing is made of a certificate, told as of it: it isn't read to its end or shows nothing
 pub record Unstarted {K : Type 0} (Kept : K → List Line → Type 0) (f : Problem) (cert : List ℕ) (old new : DeskState) (stopped : Result CertOutcome CertStop) : Type 0 where
   pub result : Result (ReadCert K) CertStop
   pub reads : ReadsCert Three Kept f cert old new result
   pub told : stopped ≡ outcome_in result
   pub nothing : ShowsNothing stopped
+
+-- it shows something, and then memory ran out
+pub record RunsOut {K : Type 0} (Kept : K → List Line → Type 0) (f : Problem) (cert : List ℕ) (old new : DeskState) (stopped : Result CertOutcome CertStop) : Type 0 where
+  pub starts : StartsOn Kept f cert old new
+  pub told : stopped ≡ Err stops.NoMemory
+
+abbrev pub StopsOnStart : {K : Type 0} → (K → List Line → Type 0) → Problem → List ℕ → DeskState → DeskState → Result CertOutcome CertStop → Type 0
+StopsOnStart Kept f cert old new stopped = Unstarted Kept f cert old new stopped ⊎ RunsOut Kept f cert old new stopped
 
 -- it shows something: its lines, with the checker that has taken them
 pub record StartsCourse (f : Problem) (cert : List ℕ) (old new : DeskState) (course : Course) : Type 0 where

@@ -15,11 +15,10 @@ mod sending;
 mod starting;
 mod status;
 mod taking;
-mod third;
 
 pub use cert::{ReadCert, check_report, read_cert};
 pub use ending::Ending;
-pub use finishing::{finish, finish_with};
+pub use finishing::finish;
 pub use input::{read_flat, read_input, stopped};
 pub use outcome::{CertOutcome, CertStop, shows_nothing, stop_outcome};
 pub use port_input::{PortNames, PortProblem, read_port_problem};
@@ -27,4 +26,3 @@ pub use sending::send_lines;
 pub use starting::read_start;
 pub use status::{Status, status_of, status_of_verdict};
 pub use taking::{LastTable, LineTaker};
-pub use third::send_third;

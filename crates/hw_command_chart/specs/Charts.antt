@@ -1,8 +1,7 @@
 -- `chart` of a flat text, a port or the repair of either by a plan: draws the plan that a certificate of any version shows.
-use Rattle.std.specs.Prelude.{◌≡◌, ℕ, List, [], ◌∷◌, ◌++◌, Option, None, Some}
+use Rattle.std.specs.Prelude.{◌≡◌, ℕ, List, Option, None, Some}
 use Rattle.hw_model.specs.Problem.{Problem}
 use Rattle.hw_desk.specs.State.{DeskState}
-use Rattle.hw_desk.specs.declared.desk.Feed.TheVariants.{Certificate}
 use Rattle.hw_cert_lines.specs.declared.check.Verdict.{Verdict}
 use Rattle.hw_cert.specs.declared.version.Version.TheVariants.{Three}
 use Rattle.hw_chart.specs.declared.outcome.Outcome.{Outcome}
@@ -10,9 +9,9 @@ use Rattle.hw_chart_flat.specs.Pictures.{flat_picture}
 use Rattle.hw_chart_port.specs.Pictures.{port_picture}
 use Rattle.hw_repair.specs.Wishes.{PlanParts}
 use Rattle.hw_report.specs.Reports.{Report, Naming, by_number, by_name, checked, picture}
-use Rattle.hw_command.specs.Carries.{Task, one_report}
-use Rattle.hw_command.specs.Scope.{named_feed}
+use Rattle.hw_command.specs.Carries.{Task}
 use Rattle.hw_subject.specs.Subjects.{Subject}
+use Rattle.hw_subject.specs.CertTasks.{cert_task}
 use Rattle.hw_subject.specs.Checks.{Checks}
 use Rattle.hw_subject.specs.Shown.{Shown}
 use Rattle.hw_command_chart.specs.Repairs.{flat_repair, port_repair}
@@ -44,9 +43,4 @@ ChartSays s cert old None = ⊥
 ChartSays s cert old (Some r) = Charts s cert old.held r
 
 abbrev pub chart_task : Subject → List ℕ → Task
-chart_task s cert = record {
-  inputs = s.inputs ++ (named_feed Certificate cert ∷ []);
-  Gives = s.Gives;
-  proof = None;
-  Says = one_report (λ old new. ChartSays s cert old);
-}
+chart_task s cert = cert_task s cert None (λ old new. ChartSays s cert old)

@@ -1,5 +1,5 @@
 -- A certificate of a subject is checked.
-use Rattle.std.proofs.Common.{◌≡◌, ◌++◌, ℕ, List, [], ◌∷◌, Option, None, Result, Ok, Err, false, refl}
+use Rattle.std.proofs.Common.{◌≡◌, ◌++◌, ℕ, List, [], ◌∷◌, None, Result, Ok, Err, false, refl}
 use Rattle.hw_model.specs.Problem.{Problem}
 use Rattle.hw_desk.specs.State.{DeskState}
 use Rattle.hw_desk.specs.declared.desk.Feed.TheVariants.{Certificate}
@@ -31,7 +31,7 @@ use Rattle.hw_command_check.specs.Reported.{bound_in, report_of_reading}
 -- ---- what the report says, and the work up to it
 
 -- of an outcome
-pub read_says : (topic : Topic) {most : Version} {cert : List ℕ} {x y z : DeskState} {given : Given} (read : ReadCert (Unit {0})) → ReadsSubject (topic_subject topic) x y given → ReadsCert most KeepsNone (searched_in given.flat given.repair) cert y z (Ok read) → Checks (topic_subject topic) most cert x.held (report_of (naming_of given.named) read.bound (repair_ships given.flat (plan_in given.repair)) read.outcome)
+read_says : (topic : Topic) {most : Version} {cert : List ℕ} {x y z : DeskState} {given : Given} (read : ReadCert (Unit {0})) → ReadsSubject (topic_subject topic) x y given → ReadsCert most KeepsNone (searched_in given.flat given.repair) cert y z (Ok read) → Checks (topic_subject topic) most cert x.held (report_of (naming_of given.named) read.bound (repair_ships given.flat (plan_in given.repair)) read.outcome)
 read_says topic {most = most} {cert = cert} {x = x} {given = given} read h m =
     let k = judged_lines (topic_subject topic) h m in
     outcome_says (topic_subject topic) h.value most cert x.held k.lines (naming_of given.named) read.bound (repair_ships given.flat (plan_in given.repair)) read.outcome h.reads (modelled topic h) h.naming (counted {s = topic_subject topic} h) k.formed k.last k.keeps
@@ -43,10 +43,10 @@ reading_says topic (Err Fault) h m own = absurd (cc)
 reading_says topic (Err NoMemory) h m own = absurd (cc)
 
 -- the work
-pub reading_works : (topic : Topic) (proof : Option (List ℕ)) {most : Version} {cert : List ℕ} {x y z : DeskState} {given : Given} {f : Problem} (result : Result (ReadCert (Unit {0})) CertStop) → ReadsSubject (topic_subject topic) x y given → ReadsCert most KeepsNone f cert y z result → Works ((topic_subject topic).inputs ++ named_feed Certificate cert ∷ []) ((topic_subject topic).Gives x.held) proof x z (report_of_reading (naming_of given.named) (repair_ships given.flat (plan_in given.repair)) result)
-reading_works topic proof {cert = cert} {x = x} {given = given} result h m =
+reading_works : (topic : Topic) {most : Version} {cert : List ℕ} {x y z : DeskState} {given : Given} {f : Problem} (result : Result (ReadCert (Unit {0})) CertStop) → ReadsSubject (topic_subject topic) x y given → ReadsCert most KeepsNone f cert y z result → Works ((topic_subject topic).inputs ++ named_feed Certificate cert ∷ []) ((topic_subject topic).Gives x.held) None x z (report_of_reading (naming_of given.named) (repair_ships given.flat (plan_in given.repair)) result)
+reading_works topic {cert = cert} {x = x} {given = given} result h m =
     let s = topic_subject topic in
-    cert_works (naming_of given.named) (bound_in result) (repair_ships given.flat (plan_in given.repair)) proof result h.entered h.read_faults (certless topic).unread (before_last (s.Gives x.held) s.inputs (named_feed Certificate cert) h.give) m
+    cert_works (naming_of given.named) (bound_in result) (repair_ships given.flat (plan_in given.repair)) None result h.entered h.read_faults (certless topic).unread (before_last (s.Gives x.held) s.inputs (named_feed Certificate cert) h.give) m
 
 -- ---- the exits
 
@@ -59,7 +59,7 @@ pub check_meets : (topic : Topic) {most : Version} {cert : List ℕ} {x y end : 
 check_meets topic {given = given} z result h m ends = record {
   mid = z;
   reports = report_of_reading (naming_of given.named) (repair_ships given.flat (plan_in given.repair)) result ∷ [];
-  works = reading_works topic None result h m;
+  works = reading_works topic result h m;
   says = reading_says topic result h m;
   ends = ends;
 }

@@ -1,18 +1,18 @@
 -- `renew` of any subject: a certificate is checked as by `verify`, and its renewed lines are sent to Proof.
-use Rattle.std.specs.Prelude.{◌≡◌, ℕ, List, [], ◌∷◌, ◌++◌, Option, Some, None, IfSome}
+use Rattle.std.specs.Prelude.{◌≡◌, ℕ, List, Option, Some, None, IfSome}
 use Rattle.hw_desk.specs.State.{DeskState}
-use Rattle.hw_desk.specs.declared.desk.Feed.TheVariants.{Certificate}
 use Rattle.hw_desk.specs.declared.desk.Tray.TheVariants as tray
 use Rattle.hw_cert_lines.specs.declared.check.Verdict.{Verdict}
 use Rattle.hw_cert_laws.specs.Renewing.{renewed}
 use Rattle.hw_cert.specs.declared.version.Version.TheVariants.{Three}
 use Rattle.hw_repair.specs.Wishes.{PlanParts}
 use Rattle.hw_report.specs.Reports.{Report, Naming, checked}
-use Rattle.hw_command.specs.Carries.{Task, one_report}
-use Rattle.hw_command.specs.Scope.{named_feed, MakesProof}
+use Rattle.hw_command.specs.Carries.{Task}
+use Rattle.hw_command.specs.Scope.{MakesProof}
 use Rattle.hw_command.specs.Sending.{IsCutOf}
 use Rattle.hw_subject.specs.Meanings.{judged}
 use Rattle.hw_subject.specs.Subjects.{Subject}
+use Rattle.hw_subject.specs.CertTasks.{cert_task}
 use Rattle.hw_subject.specs.Checks.{Checked, Checks}
 use Rattle.hw_command_check.specs.Renewing.{StillShows, renewed_text}
 use Rattle.hw_subject.specs.Shown.{Shown}
@@ -46,9 +46,4 @@ RenewSays s cert proof old new None = RenewBreaks s cert old new
 RenewSays s cert proof old new (Some r) = Renews s cert proof old new r
 
 abbrev pub renew_task : Subject → List ℕ → List ℕ → Task
-renew_task s cert proof = record {
-  inputs = s.inputs ++ (named_feed Certificate cert ∷ []);
-  Gives = s.Gives;
-  proof = Some proof;
-  Says = one_report (RenewSays s cert proof);
-}
+renew_task s cert proof = cert_task s cert (Some proof) (RenewSays s cert proof)

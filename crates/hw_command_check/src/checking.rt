@@ -54,10 +54,7 @@ fn check_to<D: Desk>(
 }
 
 /// The report of a certificate that was read, by the names of what was given.
-pub(crate) fn reading_report<'a>(
-    read: Result<ReadCert<'_, ()>, CertStop>,
-    given: &'a Given,
-) -> Report<'a>
+fn reading_report<'a>(read: Result<ReadCert<'_, ()>, CertStop>, given: &'a Given) -> Report<'a>
     ensures value { report_seen result ≡ report_of_reading (naming_of given.now.named) (plan_in given.now.repair) read.entry }
     ensures printed { CanPrint (report_seen result) }
 {

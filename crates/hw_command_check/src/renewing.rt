@@ -1,28 +1,26 @@
 //! A certificate that is checked, and sent to Proof renewed.
 
-ghost use Rattle.std.specs.Prelude.{◌≡◌, IfSome, false};
+ghost use Rattle.std.specs.Prelude.{◌≡◌, false};
 ghost use Rattle.std.specs.List.{list_all};
-ghost use Rattle.std.specs.Option.{option_map};
 ghost use Rattle.hw_cert_lines.specs.Tolled.{is_plain};
 ghost use Rattle.hw_cert.specs.Texts.{cert_text};
-ghost use Rattle.hw_command.specs.Sending.{SendsTo};
-ghost use Rattle.hw_command_check.specs.Renewing.{version_for};
 ghost use Rattle.hw_desk.specs.State.{IsNewDesk};
 ghost use Rattle.hw_desk.specs.declared.desk.Feed.TheVariants.{Certificate};
 ghost use Rattle.hw_desk.specs.declared.desk.Tray.TheVariants.{Proof};
 ghost use Rattle.hw_report.specs.Printing.{CanPrint};
 ghost use Rattle.hw_report.specs.Seen.{report_seen};
 ghost use Rattle.hw_command.specs.Carries.{Carries};
-ghost use Rattle.hw_subject.specs.Reading.{naming_of, plan_in};
+ghost use Rattle.hw_command.specs.Sending.{SendsTo};
 ghost use Rattle.hw_subject.specs.Subjects.{subject_of};
+ghost use Rattle.hw_command_check.specs.Renewing.{version_for};
 ghost use Rattle.hw_command_check.specs.Renews.{renew_task};
 ghost use Rattle.hw_command_check.specs.Rewriting.{RenewsTo, report_of_renewal};
 
-use crate::checking::reading_report;
-use hw_cert::{Line, Version};
+use hw_cert::{Line, Verdict, Version};
+use hw_cert_course::Course;
 use hw_check::renewed;
 use hw_command::{
-    CertOutcome, CertStop, ReadCert, Status, finish, finish_with, read_cert, send_lines, send_third,
+    CertOutcome, CertStop, Ending, Status, check_report, finish, read_start, send_lines,
 };
 use hw_desk::{Desk, DeskFailed};
 use hw_flat::Flat;
@@ -30,14 +28,12 @@ use hw_report::Report;
 use hw_subject::{Given, Subject, read_subject};
 use std::alloc::Global;
 
-/// What comes of a certificate that is to be renewed.
-#[derive(Drop)]
-enum Renewal<'f> {
-    /// What was read of it. If it shows something, its renewed lines were sent to Proof; otherwise
-    /// Proof wasn't made.
-    Checked(Result<ReadCert<'f, ()>, CertStop>),
-    /// A make or a write of Proof failed.
-    WriteFailed,
+/// What lines show that were renewed: their verdict, and the bound of their last bound line, in tenths
+/// of a tonne, if there is one.
+#[derive(Clone, Copy)]
+struct ShownAgain {
+    verdict: Verdict,
+    bound: Option<u64>,
 }
 
 /// Reads the subject, checks a certificate of any version, sends its lines to Proof without its deletions
@@ -58,48 +54,41 @@ pub fn renew<D: Desk>(
         Ok(given) => given,
         Err(report) => return finish(desk, &report),
     };
-    let renewal = renew_to(alloc, desk, given.searched(), cert, proof);
-    finish_with(desk, renewal_report(renewal, &given))
+    match renew_to(alloc, desk, given.searched(), cert, proof) {
+        Ending::Stopped(stopped) => {
+            finish(desk, &check_report(stopped, None, None, given.names()))
+        }
+        Ending::Sent(shown) => finish(desk, &shown_report(shown, &given)),
+        Ending::WriteFailed => Status::WriteFault,
+    }
 }
 
 /// Begins the certificate under its name and checks it, and then makes Proof under its name and sends
 /// the renewed lines there. Proof isn't made if a line is refused or memory runs out.
-fn renew_to<'f, D: Desk>(
+fn renew_to<D: Desk>(
     alloc: Global,
     desk: &mut D,
-    flat: &'f Flat,
+    flat: &Flat,
     cert: &str,
     proof: &str,
-) -> Renewal<'f>
+) -> Ending<ShownAgain>
     requires unread { ((D.state desk.old).feeds Certificate).begun ≡ false }
     requires unmade { ((D.state desk.old).trays Proof).made ≡ false }
     ensures { RenewsTo flat.now cert.now proof.now (D.state desk.old) (D.state desk.new) result }
 {
-    let lines = Vec::new(alloc);
-    let ReadCert {
-        outcome,
-        bound,
-        kept: lines,
-        checker,
-    } = match read_cert(alloc, desk, flat, cert, Version::Three, lines) {
-        Ok(read) => read,
-        Err(stop) => return Renewal::Checked(Err(stop)),
+    let Course { checker, lines, .. } = match read_start(alloc, desk, flat, cert) {
+        Ok(course) => course,
+        Err(stopped) => return Ending::Stopped(stopped),
     };
-    let read = ReadCert {
-        outcome,
-        bound,
-        kept: (),
-        checker,
-    };
-    let CertOutcome::Shows(_) = outcome else {
-        return Renewal::Checked(Ok(read));
-    };
-    let Ok(lines) = renewed(alloc, lines) else {
-        return Renewal::Checked(Err(CertStop::NoMemory));
+    let verdict = checker.verdict();
+    let bound = checker.bound();
+    let lines = match renewed(alloc, lines) {
+        Ok(lines) => lines,
+        Err(_) => return Ending::Stopped(Err(CertStop::NoMemory)),
     };
     match send_renewed(desk, &lines, proof) {
-        Ok(()) => Renewal::Checked(Ok(read)),
-        Err(_) => Renewal::WriteFailed,
+        Ok(()) => Ending::Sent(ShownAgain { verdict, bound }),
+        Err(_) => Ending::WriteFailed,
     }
 }
 
@@ -108,10 +97,17 @@ fn send_renewed<D: Desk>(desk: &mut D, lines: &[Line], proof: &str) -> Result<()
     requires unmade { ((D.state desk.old).trays Proof).made ≡ false }
     ensures { SendsTo proof.now (cert_text (version_for lines.now) lines.now) (D.state desk.old) (D.state desk.new) result }
 {
+    send_lines(desk, version_for(lines), lines, proof)
+}
+
+/// The version in which lines are written again: the second one, unless some speak of tolls or prices.
+fn version_for(lines: &[Line]) -> Version
+    ensures { result ≡ version_for lines.now }
+{
     if are_plain(lines) {
-        send_lines(desk, lines, proof)
+        Version::Two
     } else {
-        send_third(desk, lines, proof)
+        Version::Three
     }
 }
 
@@ -137,13 +133,11 @@ fn is_plain(line: &Line) -> bool
     }
 }
 
-/// The report of what comes of a certificate, or none if Proof failed: then nothing more is sent.
-fn renewal_report<'a>(renewal: Renewal<'_>, given: &'a Given) -> Option<Report<'a>>
-    ensures value { option_map report_seen result ≡ report_of_renewal (naming_of given.now.named) (plan_in given.now.repair) renewal.entry }
-    ensures printed { IfSome result (λ report. CanPrint (report_seen report)) }
+/// The report of what renewed lines show, by the names of what was given.
+fn shown_report<'a>(shown: ShownAgain, given: &'a Given) -> Report<'a>
+    ensures value { report_seen result ≡ report_of_renewal given.now shown }
+    ensures printed { CanPrint (report_seen result) }
 {
-    match renewal {
-        Renewal::Checked(read) => Some(reading_report(read, given)),
-        Renewal::WriteFailed => None,
-    }
+    let outcome = Ok(CertOutcome::Shows(shown.verdict));
+    check_report(outcome, shown.bound, given.plan(), given.names())
 }

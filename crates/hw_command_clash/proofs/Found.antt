@@ -22,7 +22,8 @@ use Rattle.hw_command_clash.specs.Found.{Found, a_clash, a_table, a_step, IsFoun
 use Rattle.hw_command_clash.specs.PortWords.{FoundOf}
 use Rattle.hw_command_clash.specs.Asked.{asked, asked_by}
 use Rattle.hw_command_clash.proofs.Printed.{reads_back}
-use Rattle.hw_command_clash.proofs.Sent.{sent_carries, memory_carries}
+use Rattle.hw_command.proofs.Exits.{memory_carries}
+use Rattle.hw_command_clash.proofs.Sent.{sent_carries}
 use Rattle.hw_command_clash.proofs.Sources.{asked_fits, is_asked, none_of, permits_of}
 use Rattle.hw_command_clash.proofs.Worded.{clash_in}
 

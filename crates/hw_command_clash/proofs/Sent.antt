@@ -1,5 +1,5 @@
 -- A certificate that is sent, and then a report.
-use Rattle.std.proofs.Common.{◌≡◌, ◌∙◌, ℕ, List, [], ◌∷◌, Option, Some, None, Result, Ok, Err, append-nil, refl, sym, subst}
+use Rattle.std.proofs.Common.{◌≡◌, ℕ, List, [], ◌∷◌, Option, Some, None, Result, Ok, Err, refl, subst}
 use Rattle.std.specs.Prelude.{IfSome}
 use Rattle.hw_desk.specs.State.{DeskState}
 use Rattle.hw_desk.specs.declared.desk.DeskFailed.{DeskFailed}
@@ -8,7 +8,7 @@ use Rattle.hw_desk.specs.declared.desk.Tray.TheVariants as tray
 use Rattle.hw_cert_lines.specs.declared.line.Line.{Line}
 use Rattle.hw_cert.specs.declared.version.Version.TheVariants.{Two}
 use Rattle.hw_cert.specs.Texts.{cert_text}
-use Rattle.hw_report.specs.Reports.{Report, no_memory}
+use Rattle.hw_report.specs.Reports.{Report}
 use Rattle.hw_command.specs.Carries.{Carries, one_report}
 use Rattle.hw_command.specs.Ends.{Ends, EndsWith}
 use Rattle.hw_command.specs.Scope.{Named, GiveBefore, Entered, MakesProof}
@@ -16,8 +16,7 @@ use Rattle.hw_command.specs.Sending.{IsCutOf, SendsTo}
 use Rattle.hw_command.specs.Works.{of_answer, speaks, ReadCauseOf}
 use Rattle.hw_command.specs.declared.status.Status.{Status}
 use Rattle.hw_command.specs.declared.status.Status.TheVariants.{WriteFault}
-use Rattle.hw_command.proofs.Begun.{wants_memory}
-use Rattle.hw_command.proofs.SentWorks.{made, sent_works, broken_works}
+use Rattle.hw_command.proofs.Exits as exits
 use Rattle.hw_command_clash.specs.Found.{report_after, SendsBoth, SendsFound}
 
 -- ---- the call
@@ -53,27 +52,5 @@ pub sent_carries : {proof : List ℕ} {x y end : DeskState} {s : Status} (inputs
 sent_carries {proof = proof} {x = x} {y = y} {end = end} {s = s} inputs Gives Says all r answer cause h give read whole short k = by k.sent k.sends k.ends
   where
     by : (sent : Result Unit DeskFailed) → SendsTo proof (cert_text Two all) y k.mid sent → EndsWith (report_after r sent) k.mid end s → Carries (record { inputs = inputs; Gives = Gives; proof = Some proof; Says = one_report Says }) x end s
-    by (Ok done) sends ends = record {
-      mid = k.mid;
-      reports = r ∷ [];
-      works = sent_works r answer h give sends (cause k.mid (sends.only.read_faults ∙ read));
-      says = λ own. whole k.mid (made h sends) sends.answer.1;
-      ends = ends;
-    }
-    by (Err failed) sends ends = record {
-      mid = k.mid;
-      reports = [];
-      works = broken_works h give read sends;
-      says = λ own. short k.mid sends.answer.1;
-      ends = ends;
-    }
-
--- memory ran out, after the inputs were read
-pub memory_carries : {x y end : DeskState} {s : Status} (inputs : List Named) (Gives : (List ℕ → Option (List ℕ)) → Feed → Type 0) (Says : DeskState → DeskState → Option Report → Type 0) (proof : Option (List ℕ)) → Entered inputs x y → GiveBefore (Gives x.held) inputs → y.read_faults ≡ x.read_faults → Ends (no_memory ∷ []) y end s → Carries (record { inputs = inputs; Gives = Gives; proof = proof; Says = one_report Says }) x end s
-memory_carries {y = y} inputs Gives Says proof h give read ends = record {
-  mid = y;
-  reports = no_memory ∷ [];
-  works = wants_memory proof inputs [] (sym (append-nil inputs)) h give read;
-  says = λ own. absurd (cc);
-  ends = ends;
-}
+    by (Ok done) sends ends = exits.sent_carries inputs Gives Says r answer (cause k.mid) h give read sends (λ made. whole k.mid made sends.answer.1) ends
+    by (Err failed) sends ends = exits.broke_carries inputs Gives Says h give read sends (short k.mid sends.answer.1) ends

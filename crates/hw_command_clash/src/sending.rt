@@ -6,7 +6,7 @@ ghost use Rattle.hw_report.specs.Printing.{CanPrint};
 ghost use Rattle.hw_report.specs.Seen.{report_seen};
 ghost use Rattle.hw_command_clash.specs.Found.{SendsFound, lines_found, report_found};
 
-use hw_cert::Line;
+use hw_cert::{Line, Version};
 use hw_clash::Clashed;
 use hw_command::{Status, finish, send_lines};
 use hw_desk::{Desk, Tray};
@@ -47,7 +47,7 @@ pub fn send_found<D: Desk>(desk: &mut D, clashed: &Clashed, budget: u32, proof: 
     ensures { SendsFound (lines_found clashed.now) (report_found budget clashed.now) proof.now (D.state desk.old) (D.state desk.new) result }
 {
     match certificate(clashed) {
-        Some(lines) => match send_lines(desk, lines, proof) {
+        Some(lines) => match send_lines(desk, Version::Two, lines, proof) {
             Ok(()) => finish(desk, &found_report(clashed, budget)),
             Err(_) => Status::WriteFault,
         },

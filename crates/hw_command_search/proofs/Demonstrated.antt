@@ -26,13 +26,13 @@ use Rattle.hw_report.specs.Reports.{demo, no_memory}
 use Rattle.hw_report.specs.declared.report.Head.{Head}
 use Rattle.hw_report.specs.declared.report.Head.TheVariants as heads
 use Rattle.hw_command.specs.Carries.{Carries}
-use Rattle.hw_command_search.specs.Demo.{Demonstrates, HeadIsFound, best_in, head_of, demo_task}
+use Rattle.hw_command_search.specs.Demo.{Demonstrates, DemoSays, HeadIsFound, best_in, head_of, demo_task}
 use Rattle.hw_command.specs.Ends.{Ends}
 use Rattle.hw_command.specs.Sending.{SendsTo}
 use Rattle.hw_command.specs.declared.status.Status.{Status}
 use Rattle.hw_command.specs.declared.status.Status.TheVariants.{WriteFault}
-use Rattle.hw_command.proofs.Begun.{entered_none, wants_memory}
-use Rattle.hw_command.proofs.SentWorks.{made, sent_works, broken_works}
+use Rattle.hw_command.proofs.Begun.{entered_none}
+use Rattle.hw_command.proofs.Exits as exits
 use Rattle.hw_command_search.specs.Certified.{HeadMeans, head_verdict}
 use Rattle.hw_command_search.specs.Searchers.{solving}
 use Rattle.hw_command_search.specs.Searching.{SearchMeets}
@@ -135,30 +135,12 @@ one_taken {f = f} {all = all} {more = more} {line = line} h cut same follows = r
 
 -- memory ran out, and nothing was touched
 pub memory_meets : {x end : DeskState} {s : Status} (f : Problem) (budget : ℕ) (proof : List ℕ) → Ends (no_memory ∷ []) x end s → Carries (demo_task f budget proof) x end s
-memory_meets {x = x} f budget proof ends = record {
-  mid = x;
-  reports = no_memory ∷ [];
-  works = wants_memory (Some proof) [] [] refl (entered_none x) tt refl;
-  says = λ e. absurd (cc);
-  ends = ends;
-}
+memory_meets {x = x} f budget proof ends = exits.memory_carries [] (λ held feed. ⊥) (DemoSays f budget proof) (Some proof) (entered_none x) tt refl ends
 
 -- the certificate was sent
 pub sent_meets : {E : Type 0} {f : Problem} {budget : ℕ} {proof : List ℕ} {x y end : DeskState} {s : Status} {u : Unit} {head : Head} {best : Option ℕ} {v : Verdict} {count : ℕ} {all : List Line} → Demonstrates f budget head best v count all → SendsTo {E = E} proof (cert_text Two all) x y (Ok u) → Ends (demo head best v count ∷ []) y end s → Carries (demo_task f budget proof) x end s
-sent_meets {x = x} {y = y} {head = head} {best = best} {v = v} {count = count} {all = all} d k ends = record {
-  mid = y;
-  reports = demo head best v count ∷ [];
-  works = sent_works (demo head best v count) refl (entered_none x) tt k k.only.read_faults;
-  says = λ own. record { lines = all; demonstrates = d; made = made (entered_none x) k; holds = k.answer.1 };
-  ends = ends;
-}
+sent_meets {f = f} {budget = budget} {proof = proof} {x = x} {head = head} {best = best} {v = v} {count = count} {all = all} d k ends = exits.sent_carries [] (λ held feed. ⊥) (DemoSays f budget proof) (demo head best v count) refl (λ same. same) (entered_none x) tt refl k (λ made. record { lines = all; demonstrates = d; made = made; holds = k.answer.1 }) ends
 
 -- a make or a write failed
 pub broken_meets : {E : Type 0} {f : Problem} {budget : ℕ} {proof : List ℕ} {x y : DeskState} {e : E} {head : Head} {best : Option ℕ} {v : Verdict} {count : ℕ} {all : List Line} → Demonstrates f budget head best v count all → SendsTo proof (cert_text Two all) x y (Err e) → Carries (demo_task f budget proof) x y WriteFault
-broken_meets {x = x} {y = y} {all = all} d k = record {
-  mid = y;
-  reports = [];
-  works = broken_works (entered_none x) tt refl k;
-  says = λ own. record { lines = all; written = d.written; part = k.answer.1 };
-  ends = (refl, refl);
-}
+broken_meets {f = f} {budget = budget} {proof = proof} {x = x} {all = all} d k = exits.broke_carries [] (λ held feed. ⊥) (DemoSays f budget proof) (entered_none x) tt refl k (record { lines = all; written = d.written; part = k.answer.1 }) (refl, refl)

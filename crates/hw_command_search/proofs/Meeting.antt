@@ -12,7 +12,7 @@ use Rattle.hw_cert_lines.specs.Tolled.{is_plain, bound_after, bound_of}
 use Rattle.hw_cert_lines.specs.Valid.{verdict, verdict_by}
 use Rattle.hw_desk.specs.State.{DeskState, Rose}
 use Rattle.hw_cert.specs.Logs.{LogTold, LogModel, WhereTold, IsWhole, Grows}
-use Rattle.hw_cert.specs.Told.{log_under}
+use Rattle.hw_cert.specs.Told.{log_of}
 use Rattle.hw_search_laws.specs.declared.outcome.Branching.{Branching}
 use Rattle.hw_search_laws.specs.declared.outcome.Solved.{Solved}
 use Rattle.hw_search_laws.specs.declared.outcome.Solved.TheVariants as solved
@@ -141,8 +141,8 @@ crew_meets {f = f} {order = order} {budget = budget} {old = old} {new = new} cre
 
 -- ---- the one that is run
 
-pub meets_as : (how other : Search) (f : Problem) (budget : ℕ) (found told : Option Found) (x y : DeskState) → how ≡ other → found ≡ told → SearchMeets (searcher_of other) f budget (log_under (searcher_of other).version x) told (log_under (searcher_of other).version y)
-    → SearchMeets (searcher_of how) f budget (log_under (searcher_of how).version x) found (log_under (searcher_of how).version y)
+pub meets_as : (how other : Search) (f : Problem) (budget : ℕ) (found told : Option Found) (x y : DeskState) → how ≡ other → found ≡ told → SearchMeets (searcher_of other) f budget (log_of (searcher_of other).version x) told (log_of (searcher_of other).version y)
+    → SearchMeets (searcher_of how) f budget (log_of (searcher_of how).version x) found (log_of (searcher_of how).version y)
 meets_as how other f budget found told x y e k m =
-    subst (λ (h : Search). SearchMeets (searcher_of h) f budget (log_under (searcher_of h).version x) found (log_under (searcher_of h).version y)) (sym e)
-    (subst (λ (o : Option Found). SearchMeets (searcher_of other) f budget (log_under (searcher_of other).version x) o (log_under (searcher_of other).version y)) (sym k) m)
+    subst (λ (h : Search). SearchMeets (searcher_of h) f budget (log_of (searcher_of h).version x) found (log_of (searcher_of h).version y)) (sym e)
+    (subst (λ (o : Option Found). SearchMeets (searcher_of other) f budget (log_of (searcher_of other).version x) o (log_of (searcher_of other).version y)) (sym k) m)

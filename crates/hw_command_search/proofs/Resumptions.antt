@@ -1,10 +1,11 @@
 -- A search that goes on from a certificate of a subject.
-use Rattle.std.proofs.Common.{◌≡◌, ◌∙◌, ℕ, List, [], ◌∷◌, Option, Some, None, Result, Ok, Err, false, inl, inr, ap, refl, subst, sym}
+use Rattle.std.proofs.Common.{◌≡◌, ◌∙◌, ℕ, List, [], ◌∷◌, Option, Some, None, Result, Ok, false, inl, inr, ap, refl, subst, sym}
 use Rattle.std.specs.Prelude.{IfSome}
 use Rattle.hw_model.specs.Problem.{Problem}
 use Rattle.hw_model.specs.Rooms.{room_count}
 use Rattle.hw_model.specs.Timetables.{Permits}
 use Rattle.hw_desk.specs.State.{DeskState}
+use Rattle.hw_desk.specs.declared.desk.DeskFailed.{DeskFailed}
 use Rattle.hw_desk.specs.declared.desk.Feed.TheVariants.{Certificate}
 use Rattle.hw_desk.specs.declared.desk.Tray.TheVariants as tray
 use Rattle.hw_cert_lines.specs.declared.line.Line.{Line}
@@ -16,19 +17,16 @@ use Rattle.hw_report.specs.Reports.{Report, Naming, solved, refused, too_long}
 use Rattle.hw_repair.specs.Wishes.{PlanParts}
 use Rattle.hw_command.specs.Carries.{Carries}
 use Rattle.hw_command.specs.Certificates.{report_of_check}
-use Rattle.hw_command.specs.Ends.{Ends, EndsWith}
-use Rattle.hw_command.specs.Readings.{KeepsLines}
-use Rattle.hw_command.specs.Scope.{named_feed}
+use Rattle.hw_command.specs.Ends.{Ends}
+use Rattle.hw_command.specs.Scope.{MakesProof, named_feed}
 use Rattle.hw_command.specs.Sending.{SendsTo}
 use Rattle.hw_command.specs.Works.{is_common}
 use Rattle.hw_command.specs.declared.outcome.CertOutcome.{CertOutcome}
 use Rattle.hw_command.specs.declared.outcome.CertStop.{CertStop}
 use Rattle.hw_command.specs.declared.status.Status.{Status}
 use Rattle.hw_command.specs.declared.status.Status.TheVariants.{WriteFault}
-use Rattle.hw_command.proofs.SentWorks.{broken_works, made, sent_works}
-use Rattle.hw_command.proofs.Stops.{stops_carries}
 use Rattle.hw_command.proofs.Started.{course_works}
-use Rattle.hw_command.specs.Starting.{StartsCourse, Unstarted, stop_outcome}
+use Rattle.hw_command.specs.Starting.{StartsCourse, stop_outcome}
 use Rattle.hw_cert_course.specs.declared.going_on.Course.{Course}
 use Rattle.hw_search_resumed.specs.Going.{Resumes, ResumingStopsFor}
 use Rattle.hw_search_resumed.specs.declared.resumed.Resumed.{Resumed}
@@ -38,8 +36,9 @@ use Rattle.hw_subject.specs.Meanings.{HeadSays, judged, repaired_problem}
 use Rattle.hw_subject.specs.Reading.{ReadsSubject, StopsAtSubject, naming_of, plan_in, searched_in}
 use Rattle.hw_subject.specs.Subjects.{Subject, Topic, topic_subject}
 use Rattle.hw_subject.specs.declared.subject.Given.{Given}
+use Rattle.hw_subject.proofs.CertTasks as tasks
 use Rattle.hw_subject.proofs.Certified.{all_entered, modelled}
-use Rattle.hw_subject.proofs.Started.{starts, unstarted_says, unstarted_works}
+use Rattle.hw_subject.proofs.Started.{starts}
 use Rattle.hw_subject.proofs.Certless.{IsCertless, certless}
 use Rattle.hw_subject.proofs.Meant.{printed_table}
 use Rattle.hw_subject.proofs.Readings.{before_last}
@@ -69,7 +68,7 @@ refuses_says s cert proof budget x y (too_long Certificate) h k = absurd (h.long
 refuses_says s cert proof budget x y r h k = k
 
 pub resume_stops : (topic : Topic) (cert proof : List ℕ) (budget : ℕ) {x y z : DeskState} {r : Report} {e : Status} → StopsAtSubject (topic_subject topic) x y r → Ends (r ∷ []) y z e → Carries (resume_task (topic_subject topic) cert budget proof) x z e
-resume_stops topic cert proof budget {x = x} {y = y} {r = r} h ends = stops_carries (resume_task (topic_subject topic) cert budget proof) (named_feed Certificate cert ∷ []) h refl (λ feed given. given) (refuses_says (topic_subject topic) cert proof budget x y r (certless topic)) ends
+resume_stops topic cert proof budget {x = x} {y = y} {r = r} h ends = tasks.subject_stops topic cert (Some proof) (ResumeSays (topic_subject topic) cert budget proof) (refuses_says (topic_subject topic) cert proof budget x y r (certless topic)) h ends
 
 -- ---- the certificate isn't gone on from
 
@@ -79,15 +78,6 @@ unanswered_says topic proof budget names (stops.Refused number cause) h k m own 
     let s = topic_subject topic in
     inr (record { start = starts topic h k.starts; cause = cause; refused = subst (λ (ls : List Line). ResumingStopsFor (judged s h.value) ls (stops.Refused number cause)) k.lines m; word_of = refl; hint_of = refl })
 unanswered_says topic proof budget names stops.NoMemory h k m own = absurd (cc)
-
-unstarted_meets : (topic : Topic) {cert proof : List ℕ} {budget : ℕ} {x y z end : DeskState} {given : Given} {e : Status} (names : Naming) (stopped : Result CertOutcome CertStop) → (h : ReadsSubject (topic_subject topic) x y given) → Unstarted KeepsLines (searched_in given.flat given.repair) cert y z stopped → Ends (report_of_check names None None stopped ∷ []) z end e → Carries (resume_task (topic_subject topic) cert budget proof) x end e
-unstarted_meets topic {cert = cert} {proof = proof} {budget = budget} {x = x} {z = z} names stopped h k ends = record {
-  mid = z;
-  reports = report_of_check names None None stopped ∷ [];
-  works = unstarted_works topic names k.result stopped h k.reads k.told;
-  says = λ own. unstarted_says topic names (λ r. ResumeSays (topic_subject topic) cert budget proof x z (Some r)) k.result stopped (λ number word hint refused. inl refused) (λ long. long) h k.reads k.told k.nothing own;
-  ends = ends;
-}
 
 unanswered_meets : (topic : Topic) {cert proof : List ℕ} {budget : ℕ} {x y z end : DeskState} {given : Given} {e : Status} (names : Naming) (stopped : Result CertOutcome CertStop) → (h : ReadsSubject (topic_subject topic) x y given) → Unanswered (judged (topic_subject topic) h.value) cert y z stopped → Ends (report_of_check names None None stopped ∷ []) z end e → Carries (resume_task (topic_subject topic) cert budget proof) x end e
 unanswered_meets topic {cert = cert} {proof = proof} {budget = budget} {x = x} {z = z} {end = end} {e = e} names stopped h k ends =
@@ -103,9 +93,9 @@ unanswered_meets topic {cert = cert} {proof = proof} {budget = budget} {x = x} {
 -- ---- the lines went to Proof
 
 -- what is found of it
-found_says : (topic : Topic) {cert proof : List ℕ} {budget : ℕ} {x y z : DeskState} {given : Given} {found : Found} → (h : ReadsSubject (topic_subject topic) x y given) → (k : SendsResumed (judged (topic_subject topic) h.value) cert budget proof y z found (Ok tt))
+found_says : (topic : Topic) {cert proof : List ℕ} {budget : ℕ} {x y z : DeskState} {given : Given} {found : Found} → (h : ReadsSubject (topic_subject topic) x y given) → (k : SendsResumed (judged (topic_subject topic) h.value) cert budget proof y z found (Ok tt)) → MakesProof proof x z
     → let r = k.resumed in IsResumed (topic_subject topic) cert budget proof x z (own_head ((topic_subject topic).plan h.value) ((topic_subject topic).problem h.value).ships (resumed_found budget r).head) ((topic_subject topic).problem h.value) ((topic_subject topic).naming h.value) r.table (moved_told ((topic_subject topic).plan h.value) r.table) (own_bound ((topic_subject topic).plan h.value) ((topic_subject topic).problem h.value).ships r.bound)
-found_says topic {cert = cert} {budget = budget} {z = z} h k =
+found_says topic {cert = cert} {budget = budget} {z = z} h k made =
     let r = k.resumed in
     let s = topic_subject topic in
     let v = h.value in
@@ -118,7 +108,7 @@ found_says topic {cert = cert} {budget = budget} {z = z} h k =
       problem = refl;
       naming = refl;
       counted = refl;
-      made = made (all_entered topic h k.starts.starts.reads) k.sends;
+      made = made;
       permitted = printed_table s v r.table m (is_permitted m.limits k.resumes);
       means = subst (λ (most : ℕ). HeadSays s v budget most own r.table) (same_rooms f (s.plan v)) (head_says s v budget (room_count (judged s v)) (resumed_found budget r).head r.table m (is_meant m.limits k.resumes));
       bounded = bound_says s v r.bound m (is_bounded m.limits k.resumes);
@@ -129,42 +119,26 @@ found_says topic {cert = cert} {budget = budget} {z = z} h k =
     same_rooms f None = refl
     same_rooms f (Some plan) = refl
 
-found_meets : (topic : Topic) {cert proof : List ℕ} {budget : ℕ} {x y z end : DeskState} {given : Given} {e : Status} (found : Found) → (h : ReadsSubject (topic_subject topic) x y given) → SendsResumed (judged (topic_subject topic) h.value) cert budget proof y z found (Ok tt) → Ends (report_of_found given found ∷ []) z end e → Carries (resume_task (topic_subject topic) cert budget proof) x end e
-found_meets topic {cert = cert} {budget = budget} {x = x} {z = z} {end = end} {given = given} {e = e} found h k ends =
-    let s = topic_subject topic in
-    let told = found_report (s.problem h.value) (s.naming h.value) (s.plan h.value) (resumed_found budget k.resumed) in
-    record {
-      mid = z;
-      reports = told ∷ [];
-      works = sent_works told refl (all_entered topic h k.starts.starts.reads) (before_last (s.Gives x.held) s.inputs (named_feed Certificate cert) h.give) k.sends (k.sends.only.read_faults ∙ (k.starts.starts.reads.reads.0 ∙ h.read_faults));
-      says = λ own. found_says topic h k;
-      ends = subst (λ (told : Report). Ends (told ∷ []) z end e) (ap (report_of_found given) k.found_in ∙ same_report s (resumed_found budget k.resumed) h) ends;
-    }
-
--- a make or a write failed
-broke : (topic : Topic) {cert proof : List ℕ} {budget : ℕ} {x y z end : DeskState} {given : Given} {found : Found} {e : Status} → (h : ReadsSubject (topic_subject topic) x y given) → SendsResumed (judged (topic_subject topic) h.value) cert budget proof y z found (Err tt) → EndsWith None z end e → Carries (resume_task (topic_subject topic) cert budget proof) x end e
-broke topic {cert = cert} {budget = budget} {x = x} {z = z} h k ends =
-    let s = topic_subject topic in
-    let resumes = subst (λ (ls : List Line). Resumes (judged s h.value) budget ls k.resumed) k.starts.lines k.resumes in
-    record {
-      mid = z;
-      reports = [];
-      works = broken_works (all_entered topic h k.starts.starts.reads) (before_last (s.Gives x.held) s.inputs (named_feed Certificate cert) h.give) (k.starts.starts.reads.reads.0 ∙ h.read_faults) k.sends;
-      says = λ own. record { start = starts topic h k.starts.starts; lines = k.resumed.lines.items; goes_on = resumes.goes_on; few = resumes.few; cut = k.sends.answer.1 };
-      ends = ends;
-    }
-
 -- ---- by what comes of the certificate
 
 pub stopped_carries : (topic : Topic) {cert proof : List ℕ} {budget : ℕ} {x y end : DeskState} {given : Given} {e : Status} (z : DeskState) (stopped : Result CertOutcome CertStop) → (h : ReadsSubject (topic_subject topic) x y given) → ResumesTo (searched_in given.flat given.repair) cert budget proof y z (outcomes.Stopped stopped) → Ends (report_of_check (naming_of given.named) None None stopped ∷ []) z end e → Carries (resume_task (topic_subject topic) cert budget proof) x end e
-stopped_carries topic {given = given} z stopped h (inl k) e = unstarted_meets topic (naming_of given.named) stopped h k e
+stopped_carries topic {cert = cert} {proof = proof} {budget = budget} {given = given} z stopped h (inl k) e = tasks.unstarted_carries topic (ResumeSays (topic_subject topic) cert budget proof) (naming_of given.named) stopped (λ number word hint refused. inl refused) (λ long. long) h k e
 stopped_carries topic {cert = cert} {y = y} {given = given} z stopped h (inr k) e = unanswered_meets topic (naming_of given.named) stopped h (subst (λ (f : Problem). Unanswered f cert y z stopped) h.searched k) e
 
 pub found_carries : (topic : Topic) {cert proof : List ℕ} {budget : ℕ} {x y end : DeskState} {given : Given} {e : Status} (z : DeskState) (found : Found) → ReadsSubject (topic_subject topic) x y given → ResumesTo (searched_in given.flat given.repair) cert budget proof y z (outcomes.Sent found) → Ends (report_of_found given found ∷ []) z end e → Carries (resume_task (topic_subject topic) cert budget proof) x end e
-found_carries topic {cert = cert} {proof = proof} {budget = budget} {y = y} z found h k e = found_meets topic found h (of_judged (topic_subject topic) cert proof budget y z (outcomes.Sent found) h k) e
+found_carries topic {cert = cert} {proof = proof} {budget = budget} {y = y} {end = end} {given = given} {e = e} z found h sent ends =
+    let s = topic_subject topic in
+    let k = of_judged s cert proof budget y z (outcomes.Sent found) h sent in
+    let told = found_report (s.problem h.value) (s.naming h.value) (s.plan h.value) (resumed_found budget k.resumed) in
+    tasks.sent_carries topic (ResumeSays s cert budget proof) told refl (λ same. same) h k.starts.starts.reads k.sends (found_says topic h k) (subst (λ (told : Report). Ends (told ∷ []) z end e) (ap (report_of_found given) k.found_in ∙ same_report s (resumed_found budget k.resumed) h) ends)
 
+-- a make or a write failed
 pub broke_carries : (topic : Topic) {cert proof : List ℕ} {budget : ℕ} {x y : DeskState} {given : Given} (z : DeskState) → ReadsSubject (topic_subject topic) x y given → ResumesTo (searched_in given.flat given.repair) cert budget proof y z outcomes.WriteFailed → Carries (resume_task (topic_subject topic) cert budget proof) x z WriteFault
-broke_carries topic {cert = cert} {proof = proof} {budget = budget} {y = y} z h k = broke topic h (of_judged (topic_subject topic) cert proof budget y z outcomes.WriteFailed h k).1 (refl, refl)
+broke_carries topic {cert = cert} {proof = proof} {budget = budget} {y = y} z h sent =
+    let s = topic_subject topic in
+    let k = (of_judged s cert proof budget y z outcomes.WriteFailed h sent).1 in
+    let resumes = subst (λ (ls : List Line). Resumes (judged s h.value) budget ls k.resumed) k.starts.lines k.resumes in
+    tasks.broke_carries topic (ResumeSays s cert budget proof) h k.starts.starts.reads k.sends (record { start = starts topic h k.starts.starts; lines = k.resumed.lines.items; goes_on = resumes.goes_on; few = resumes.few; cut = k.sends.answer.1 })
 
 -- the timetable of what was found is permitted
 found_permitted : (topic : Topic) {cert proof : List ℕ} {budget : ℕ} {x y z : DeskState} {given : Given} (found : Found) → (h : ReadsSubject (topic_subject topic) x y given) → ResumesTo (searched_in given.flat given.repair) cert budget proof y z (outcomes.Sent found) → IfSome found.table (Permits (judged (topic_subject topic) h.value))
@@ -181,30 +155,16 @@ resumed_slots topic found h k =
 
 -- ---- the lines are sent
 
-pub sent_on : {E : Type 0} {f : Problem} {cert proof : List ℕ} {budget : ℕ} {x y z : DeskState} {u : Unit {0}} (start : Course) (r : Resumed) (found : Found) → StartsCourse f cert x y start → found ≡ resumed_found budget r → Resumes start.flat.now budget start.lines.items r → SendsTo {E = E} proof (cert_text Three r.lines.items) y z (Ok u) → SendsResumed f cert budget proof x z found (Ok tt)
-sent_on {budget = budget} {y = y} start r found h is resumes sends = record {
+pub sends_resumed : {f : Problem} {cert proof : List ℕ} {budget : ℕ} {x y z : DeskState} {sent : Result Unit DeskFailed} (start : Course) (r : Resumed) (found : Found) → StartsCourse f cert x y start → found ≡ resumed_found budget r → Resumes start.flat.now budget start.lines.items r → SendsTo proof (cert_text Three r.lines.items) y z sent → SendsResumed f cert budget proof x z found sent
+sends_resumed {budget = budget} {y = y} start r found h is resumes sends = record {
   mid = y;
   start = start;
   starts = h;
   resumed = r;
   found_in = is;
   resumes = subst (λ (f : Problem). Resumes f budget start.lines.items r) h.stands.problem resumes;
-  sends = record { only = sends.only; made = sends.made; named = sends.named; answer = sends.answer };
+  sends = sends;
 }
-
-pub broke_off : {E : Type 0} {f : Problem} {cert proof : List ℕ} {budget : ℕ} {x y z : DeskState} {fault : E} (start : Course) (r : Resumed) → StartsCourse f cert x y start → Resumes start.flat.now budget start.lines.items r → SendsTo {E = E} proof (cert_text Three r.lines.items) y z (Err fault) → (found : Found) × SendsResumed f cert budget proof x z found (Err tt)
-broke_off {budget = budget} {y = y} start r h resumes sends = (
-  resumed_found budget r,
-  record {
-    mid = y;
-    start = start;
-    starts = h;
-    resumed = r;
-    found_in = refl;
-    resumes = subst (λ (f : Problem). Resumes f budget start.lines.items r) h.stands.problem resumes;
-    sends = record { only = sends.only; made = sends.made; named = sends.named; answer = sends.answer };
-  },
-)
 
 -- ---- the report can be printed
 

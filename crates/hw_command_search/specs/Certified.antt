@@ -13,7 +13,7 @@ use Rattle.hw_cert_lines.specs.Tolled.{bound_of}
 use Rattle.hw_cert_lines.specs.Valid.{verdict, LineFits, Valid, ValidAfter}
 use Rattle.hw_cert.specs.Logs.{LogTold, IsBegunLine}
 use Rattle.hw_cert.specs.Texts.{cert_text}
-use Rattle.hw_cert.specs.Told.{header_line_of, IsTextUnder}
+use Rattle.hw_cert.specs.Told.{header_line, IsTextOf}
 use Rattle.hw_report.specs.declared.report.Head.{Head}
 use Rattle.hw_report.specs.declared.report.Head.TheVariants.{Optimal, Infeasible, Unfinished, Memory}
 use Rattle.hw_repair.specs.Repaired.{own_cargo}
@@ -111,8 +111,8 @@ pub record IsCertificate (q : Searcher) (f : Problem) (plan : Option PlanParts) 
 -- a proper prefix of the header's line
 pub record IsInHeader (q : Searcher) (bytes : List ℕ) : Type 0 where
   pub count : ℕ
-  pub proper : count < length (header_line_of q.version)
-  pub text : bytes ≡ take count (header_line_of q.version)
+  pub proper : count < length (header_line q.version)
+  pub text : bytes ≡ take count (header_line q.version)
 
 -- a line that the search may write, of the problem, valid and lean after the lines, of whose text a proper prefix follows them
 pub record IsCutLine (q : Searcher) (f : Problem) (told : LogTold) : Type 0 where
@@ -126,7 +126,7 @@ pub record IsCutLine (q : Searcher) (f : Problem) (told : LogTold) : Type 0 wher
 -- the text of whole lines, and after it a proper prefix of the next one's
 pub record IsInLine (q : Searcher) (f : Problem) (budget : ℕ) (bytes : List ℕ) : Type 0 where
   pub told : LogTold
-  pub text : IsTextUnder q.version told bytes
+  pub text : IsTextOf q.version told bytes
   pub written : IsWritten q f budget told.lines
   pub next : IsCutLine q f told
 

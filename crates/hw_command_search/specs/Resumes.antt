@@ -1,5 +1,5 @@
 -- `resume` of any subject: a certificate is checked as by `verify`, a search goes on from its lines, and all lines are sent to Proof.
-use Rattle.std.specs.Prelude.{◌≡◌, ◌≤◌, ◌⊎◌, ℕ, List, [], ◌∷◌, ◌++◌, Option, Some, None, IfSome, ⊤, false, length}
+use Rattle.std.specs.Prelude.{◌≡◌, ◌≤◌, ◌⊎◌, ℕ, List, Option, Some, None, IfSome, ⊤, false, length}
 use Rattle.hw_model.specs.Problem.{Problem}
 use Rattle.hw_model.specs.Rooms.{room_count}
 use Rattle.hw_desk.specs.State.{DeskState}
@@ -18,8 +18,8 @@ use Rattle.hw_report.specs.declared.report.Head.{Head}
 use Rattle.hw_report.specs.declared.report.Head.TheVariants.{Optimal, Infeasible, Unfinished, Memory}
 use Rattle.hw_report.specs.declared.report.RefusedWord.{RefusedWord}
 use Rattle.hw_report.specs.declared.report.RefusedWord.TheVariants.{Check}
-use Rattle.hw_command.specs.Carries.{Task, one_report}
-use Rattle.hw_command.specs.Scope.{named_feed, MakesProof}
+use Rattle.hw_command.specs.Carries.{Task}
+use Rattle.hw_command.specs.Scope.{MakesProof}
 use Rattle.hw_command.specs.Sending.{IsCutOf}
 use Rattle.hw_command.specs.declared.outcome.CertOutcome.TheVariants.{Wrong, TooLong}
 use Rattle.hw_repair.specs.Wishes.{PlanParts}
@@ -28,6 +28,7 @@ use Rattle.hw_search_resumed.specs.Going.{LineIsRefused}
 use Rattle.hw_subject.specs.Meanings.{HeadSays, IsBoundOf, IsPrintedTable, judged, repaired_problem}
 use Rattle.hw_subject.specs.Shown.{Refused, Starts}
 use Rattle.hw_subject.specs.Subjects.{Subject}
+use Rattle.hw_subject.specs.CertTasks.{cert_task}
 use Rattle.hw_command_search.specs.Certified.{head_verdict, own_bound, searched_head}
 
 -- ---- the lines
@@ -93,9 +94,4 @@ ResumeSays s cert budget proof old new (Some (too_long Certificate)) = Refused s
 ResumeSays s cert budget proof old new (Some r) = s.Refuses old.held r
 
 abbrev pub resume_task : Subject → List ℕ → ℕ → List ℕ → Task
-resume_task s cert budget proof = record {
-  inputs = s.inputs ++ (named_feed Certificate cert ∷ []);
-  Gives = s.Gives;
-  proof = Some proof;
-  Says = one_report (ResumeSays s cert budget proof);
-}
+resume_task s cert budget proof = cert_task s cert (Some proof) (ResumeSays s cert budget proof)

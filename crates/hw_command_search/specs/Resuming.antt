@@ -2,6 +2,7 @@
 use Rattle.std.specs.Prelude.{◌≡◌, ◌⊎◌, ℕ, Bool, true, false, List, Result}
 use Rattle.hw_model.specs.Problem.{Problem}
 use Rattle.hw_desk.specs.State.{DeskState}
+use Rattle.hw_desk.specs.declared.desk.DeskFailed.{DeskFailed}
 use Rattle.hw_cert_lines.specs.declared.check.Verdict.{Verdict}
 use Rattle.hw_cert_lines.specs.declared.check.Verdict.TheVariants as verdicts
 use Rattle.hw_cert.specs.declared.version.Version.TheVariants.{Three}
@@ -44,7 +45,7 @@ pub record Unanswered (f : Problem) (cert : List ℕ) (old new : DeskState) (sto
   pub told : stopped ≡ stop_outcome stop
 
 -- its lines with those that the search added are sent to Proof
-pub record SendsResumed (f : Problem) (cert : List ℕ) (budget : ℕ) (proof : List ℕ) (old new : DeskState) (found : Found) (sent : Result Unit Unit) : Type 0 where
+pub record SendsResumed (f : Problem) (cert : List ℕ) (budget : ℕ) (proof : List ℕ) (old new : DeskState) (found : Found) (sent : Result Unit DeskFailed) : Type 0 where
   pub mid : DeskState
   pub start : Course
   pub starts : StartsCourse f cert old mid start

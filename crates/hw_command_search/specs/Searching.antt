@@ -7,7 +7,7 @@ use Rattle.hw_desk.specs.State.{DeskState, Rose}
 use Rattle.hw_desk.specs.declared.desk.Tray.TheVariants as tray
 use Rattle.hw_cert_laws.specs.Laws.{IsBound}
 use Rattle.hw_cert.specs.Logs.{LogModel, LogTold, WhereTold}
-use Rattle.hw_cert.specs.Told.{log_under}
+use Rattle.hw_cert.specs.Told.{log_of}
 use Rattle.hw_command_search.specs.Certified.{HeadMeans, BoundIsAbove, IsWritten, ShowsHead, IsCertificate, IsCutLine, IsCutShort}
 use Rattle.hw_command_search.specs.Searchers.{Searcher}
 use Rattle.hw_command_search.specs.declared.finding.Found.{Found}
@@ -45,7 +45,7 @@ pub record SearchMeets (q : Searcher) (f : Problem) (budget : ℕ) (old : LogMod
 
 -- the same of a desk whose Proof holds the header of a certificate of the search
 abbrev pub SearchesOn : Searcher → Problem → ℕ → DeskState → Option Found → DeskState → Type 0
-SearchesOn q f budget old found new = SearchMeets q f budget (log_under q.version old) found (log_under q.version new)
+SearchesOn q f budget old found new = SearchMeets q f budget (log_of q.version old) found (log_of q.version new)
 
 -- what is on Proof after a search: a certificate that shows what was found; or what a failed make or write leaves
 abbrev pub SearchLeaves : Searcher → Problem → ℕ → DeskState → DeskState → Option Found → Type 0

@@ -17,7 +17,7 @@ ghost use Rattle.hw_report.specs.Seen.{report_seen};
 ghost use Rattle.hw_command.specs.Carries.{Carries};
 ghost use Rattle.hw_command_search.specs.Demo.{CanDraw, Demonstrates, best_in, demo_task, head_of};
 
-use hw_cert::{Line, MemoryLog, Verdict};
+use hw_cert::{Line, MemoryLog, Verdict, Version};
 use hw_check::{CheckStop, Checker};
 use hw_command::{Status, finish, send_lines};
 use hw_desk::Desk;
@@ -59,7 +59,7 @@ pub fn demo<D: Desk>(alloc: Global, desk: &mut D, draw: Draw, budget: u32, proof
         Ok(shown) => shown,
         Err(_) => return finish(desk, &Report::Memory),
     };
-    match send_lines(desk, &shown.lines, proof) {
+    match send_lines(desk, Version::Two, &shown.lines, proof) {
         Ok(()) => finish(desk, &summary(&shown)),
         Err(_) => Status::WriteFault,
     }

@@ -11,8 +11,8 @@ ghost use Rattle.hw_command_search.specs.Resuming.{ResumesTo, resumed_found};
 
 use crate::finding::Found;
 use crate::reporting::found_report;
-use hw_cert::Verdict;
-use hw_command::{Ending, Status, check_report, finish, read_start, send_third, stop_outcome};
+use hw_cert::{Verdict, Version};
+use hw_command::{Ending, Status, check_report, finish, read_start, send_lines, stop_outcome};
 use hw_desk::Desk;
 use hw_flat::Flat;
 use hw_price_adviser::PricingAdviser;
@@ -75,7 +75,7 @@ fn resume_to<D: Desk>(
         Ok(resumed) => resumed,
         Err(stop) => return Ending::Stopped(stop_outcome(stop)),
     };
-    match send_third(desk, &resumed.lines, proof) {
+    match send_lines(desk, Version::Three, &resumed.lines, proof) {
         Ok(()) => Ending::Sent(resumed_found(budget, resumed)),
         Err(_) => Ending::WriteFailed,
     }

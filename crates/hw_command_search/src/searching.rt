@@ -2,8 +2,8 @@
 
 ghost use Rattle.std.specs.Prelude.{◌≡◌, ◌≤◌, false, true};
 ghost use Rattle.hw_cert.specs.Logs.{IsEmpty, outside_of};
-ghost use Rattle.hw_cert.specs.Told.{is_told, is_told_under, log_under, tray_log};
-ghost use Rattle.hw_cert.specs.declared.version.Version.TheVariants.{Three};
+ghost use Rattle.hw_cert.specs.Told.{is_told, log_of};
+ghost use Rattle.hw_cert.specs.declared.version.Version.TheVariants.{Two, Three};
 ghost use Rattle.hw_search_laws.specs.Proving.{ProveMeets};
 ghost use Rattle.hw_search_laws.specs.Solving.{SolveMeets};
 ghost use Rattle.hw_search.specs.Faults.{SolvedKeepsFaults};
@@ -14,7 +14,7 @@ ghost use Rattle.hw_command_search.specs.Searching.{SearchesOn, SearchesTo};
 use crate::finding::{Found, found_by_crew, found_of};
 use crate::order::Order;
 use crate::searcher::Search;
-use hw_cert::{PriceLog, TrayLog, send_header_of};
+use hw_cert::{TrayLog, Version, send_header};
 use hw_desk::{Desk, Tray};
 use hw_flat::Flat;
 use hw_price_adviser::PricingAdviser;
@@ -42,7 +42,7 @@ pub(crate) fn search_to<D: Desk>(
     if desk.make(Tray::Proof, name).is_err() {
         return None;
     }
-    if send_header_of(desk, how.version()).is_err() {
+    if send_header(desk, how.version()).is_err() {
         return None;
     }
     search_on(alloc, desk, flat, how, budget)
@@ -59,10 +59,10 @@ fn search_on<D: Desk>(
     requires least { 1 ≤ budget }
     requires most { budget ≤ MOST_BUDGET }
     requires made { ((D.state desk.old).trays Tray.Proof).made ≡ true }
-    requires told { is_told_under (searcher_of how.now).version ((D.state desk.old).trays Tray.Proof).sent ≡ true }
-    requires empty { IsEmpty (log_under (searcher_of how.now).version (D.state desk.old)) }
+    requires told { is_told (searcher_of how.now).version ((D.state desk.old).trays Tray.Proof).sent ≡ true }
+    requires empty { IsEmpty (log_of (searcher_of how.now).version (D.state desk.old)) }
     ensures meets { SearchesOn (searcher_of how.now) flat.now budget (D.state desk.old) result (D.state desk.new) }
-    ensures told { is_told_under (searcher_of how.now).version ((D.state desk.new).trays Tray.Proof).sent ≡ true }
+    ensures told { is_told (searcher_of how.now).version ((D.state desk.new).trays Tray.Proof).sent ≡ true }
     ensures outside { outside_of (D.state desk.new) ≡ outside_of (D.state desk.old) }
 {
     match how {
@@ -80,14 +80,14 @@ fn solve_on<D: Desk>(alloc: Global, desk: &mut D, flat: &Flat, budget: u32) -> S
     requires least { 1 ≤ budget }
     requires most { budget ≤ MOST_BUDGET }
     requires made { ((D.state desk.old).trays Tray.Proof).made ≡ true }
-    requires told { is_told ((D.state desk.old).trays Tray.Proof).sent ≡ true }
-    requires empty { IsEmpty (tray_log (D.state desk.old)) }
-    ensures solves { SolveMeets flat.now budget (tray_log (D.state desk.old)) result (tray_log (D.state desk.new)) }
-    ensures kept { SolvedKeepsFaults result (tray_log (D.state desk.old)) (tray_log (D.state desk.new)) }
-    ensures told { is_told ((D.state desk.new).trays Tray.Proof).sent ≡ true }
+    requires told { is_told Two ((D.state desk.old).trays Tray.Proof).sent ≡ true }
+    requires empty { IsEmpty (log_of Two (D.state desk.old)) }
+    ensures solves { SolveMeets flat.now budget (log_of Two (D.state desk.old)) result (log_of Two (D.state desk.new)) }
+    ensures kept { SolvedKeepsFaults result (log_of Two (D.state desk.old)) (log_of Two (D.state desk.new)) }
+    ensures told { is_told Two ((D.state desk.new).trays Tray.Proof).sent ≡ true }
     ensures outside { outside_of (D.state desk.new) ≡ outside_of (D.state desk.old) }
 {
-    let mut log = TrayLog::over(desk);
+    let mut log = TrayLog::over(desk, Version::Two);
     solve(alloc, flat, budget, &mut log)
 }
 
@@ -96,14 +96,14 @@ fn prove_on<D: Desk>(alloc: Global, desk: &mut D, flat: &Flat, budget: u32, seed
     requires least { 1 ≤ budget }
     requires most { budget ≤ MOST_BUDGET }
     requires made { ((D.state desk.old).trays Tray.Proof).made ≡ true }
-    requires told { is_told_under Three ((D.state desk.old).trays Tray.Proof).sent ≡ true }
-    requires empty { IsEmpty (log_under Three (D.state desk.old)) }
-    ensures proves { ProveMeets flat.now budget (log_under Three (D.state desk.old)) result.solved result.bound (log_under Three (D.state desk.new)) }
-    ensures kept { SolvedKeepsFaults result.solved (log_under Three (D.state desk.old)) (log_under Three (D.state desk.new)) }
-    ensures told { is_told_under Three ((D.state desk.new).trays Tray.Proof).sent ≡ true }
+    requires told { is_told Three ((D.state desk.old).trays Tray.Proof).sent ≡ true }
+    requires empty { IsEmpty (log_of Three (D.state desk.old)) }
+    ensures proves { ProveMeets flat.now budget (log_of Three (D.state desk.old)) result.solved result.bound (log_of Three (D.state desk.new)) }
+    ensures kept { SolvedKeepsFaults result.solved (log_of Three (D.state desk.old)) (log_of Three (D.state desk.new)) }
+    ensures told { is_told Three ((D.state desk.new).trays Tray.Proof).sent ≡ true }
     ensures outside { outside_of (D.state desk.new) ≡ outside_of (D.state desk.old) }
 {
-    let mut log = PriceLog::over(desk);
+    let mut log = TrayLog::over(desk, Version::Three);
     let adviser = PricingAdviser::new(budget, seed);
     prove(alloc, flat, budget, adviser, &mut log)
 }
@@ -113,13 +113,13 @@ fn crew_on<D: Desk>(alloc: Global, desk: &mut D, flat: &Flat, order: &Order, bud
     requires least { 1 ≤ budget }
     requires most { budget ≤ MOST_BUDGET }
     requires made { ((D.state desk.old).trays Tray.Proof).made ≡ true }
-    requires told { is_told ((D.state desk.old).trays Tray.Proof).sent ≡ true }
-    requires empty { IsEmpty (tray_log (D.state desk.old)) }
-    ensures crews { CrewMeets flat.now order.now budget (tray_log (D.state desk.old)) result (tray_log (D.state desk.new)) }
-    ensures told { is_told ((D.state desk.new).trays Tray.Proof).sent ≡ true }
+    requires told { is_told Two ((D.state desk.old).trays Tray.Proof).sent ≡ true }
+    requires empty { IsEmpty (log_of Two (D.state desk.old)) }
+    ensures crews { CrewMeets flat.now order.now budget (log_of Two (D.state desk.old)) result (log_of Two (D.state desk.new)) }
+    ensures told { is_told Two ((D.state desk.new).trays Tray.Proof).sent ≡ true }
     ensures outside { outside_of (D.state desk.new) ≡ outside_of (D.state desk.old) }
 {
     let rules = order.rules();
-    let mut log = TrayLog::over(desk);
+    let mut log = TrayLog::over(desk, Version::Two);
     crew(alloc, flat, rules, budget, &mut log)
 }

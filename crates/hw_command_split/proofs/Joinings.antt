@@ -5,6 +5,7 @@ use Rattle.std.specs.declared.alloc.Global.{Global}
 use Rattle.std.specs.Prelude.{IfSome}
 use Rattle.hw_model.specs.Problem.{Problem}
 use Rattle.hw_desk.specs.State.{DeskState}
+use Rattle.hw_desk.specs.declared.desk.DeskFailed.{DeskFailed}
 use Rattle.hw_desk.specs.declared.desk.Feed.{Feed}
 use Rattle.hw_desk.specs.declared.desk.Feed.TheVariants as feeds
 use Rattle.hw_desk.specs.declared.desk.Tray.TheVariants as tray
@@ -171,7 +172,7 @@ unjoined_meets topic {split = split} {certs = certs} {proof = proof} {w = w} {en
 -- ---- the lines went to Proof
 
 -- what they were joined to
-abbrev joins_certs : (topic : Topic) {split certs proof : List ℕ} {x y z w : DeskState} {given : Given} {nodes : List Node} {sent : Result Unit Unit} (j : Joined) → (h : ReadsSubject (topic_subject topic) x y given) → ReadsSplit (searched_in given.flat given.repair) split y z nodes → SendsJoined (judged (topic_subject topic) h.value) nodes certs proof z w j sent → JoinsCerts (topic_subject topic) split certs x.held
+abbrev joins_certs : (topic : Topic) {split certs proof : List ℕ} {x y z w : DeskState} {given : Given} {nodes : List Node} {sent : Result Unit DeskFailed} (j : Joined) → (h : ReadsSubject (topic_subject topic) x y given) → ReadsSplit (searched_in given.flat given.repair) split y z nodes → SendsJoined (judged (topic_subject topic) h.value) nodes certs proof z w j sent → JoinsCerts (topic_subject topic) split certs x.held
 joins_certs topic {certs = certs} j h k m = record {
   gives = gives_split h k;
   taken = m.taken.items;
@@ -203,7 +204,7 @@ joined_says s split certs proof x w names ships j None done = done
 joined_says s split certs proof x w names ships j (Some number) done = done
 
 -- the last report is an answer, and no fault
-joined_works : {inputs : List Named} {Gives : Feed → Type 0} {proof text : List ℕ} {x z w : DeskState} (names : Naming) (ships : Option ℕ) (j : Joined) (first : Option ℕ) → Entered inputs x z → GiveBefore Gives inputs → SendsTo {E = Unit} proof text z w (Ok tt) → w.read_faults ≡ x.read_faults → Works inputs Gives (Some proof) x w (last_report (checked j.verdict j.bound ships names) (open_reports first))
+joined_works : {inputs : List Named} {Gives : Feed → Type 0} {proof text : List ℕ} {x z w : DeskState} (names : Naming) (ships : Option ℕ) (j : Joined) (first : Option ℕ) → Entered inputs x z → GiveBefore Gives inputs → SendsTo {E = DeskFailed} proof text z w (Ok tt) → w.read_faults ≡ x.read_faults → Works inputs Gives (Some proof) x w (last_report (checked j.verdict j.bound ships names) (open_reports first))
 joined_works names ships j None h give sends read = sent_works (checked j.verdict j.bound ships names) refl h give sends read
 joined_works names ships j (Some number) h give sends read = sent_works (open_part number) refl h give sends read
 
@@ -221,7 +222,7 @@ sent_meets topic {split = split} {certs = certs} {proof = proof} {x = x} {w = w}
       ends = ends;
     }
 
-broke_meets : (topic : Topic) {split certs proof : List ℕ} {x y z w end : DeskState} {given : Given} {nodes : List Node} {e : Status} (j : Joined) → (h : ReadsSubject (topic_subject topic) x y given) → ReadsSplit (searched_in given.flat given.repair) split y z nodes → SendsJoined (judged (topic_subject topic) h.value) nodes certs proof z w j (Err tt) → EndsWith None w end e → Carries (join_task (topic_subject topic) split certs proof) x end e
+broke_meets : (topic : Topic) {split certs proof : List ℕ} {x y z w end : DeskState} {given : Given} {nodes : List Node} {e : Status} (j : Joined) → (h : ReadsSubject (topic_subject topic) x y given) → ReadsSplit (searched_in given.flat given.repair) split y z nodes → SendsJoined (judged (topic_subject topic) h.value) nodes certs proof z w j (Err (record {})) → EndsWith None w end e → Carries (join_task (topic_subject topic) split certs proof) x end e
 broke_meets topic {split = split} {certs = certs} {proof = proof} {x = x} {w = w} j h k m ends =
     let s = topic_subject topic in
     record {

@@ -11,6 +11,7 @@ use Rattle.hw_model.specs.Rooms.{IsRoomOf, RoomFits, RoomModel, whole_room}
 use Rattle.hw_model.specs.Timetables.{beats}
 use Rattle.hw_model_laws.proofs.Denials.{inside_whole}
 use Rattle.hw_desk.specs.State.{DeskState}
+use Rattle.hw_desk.specs.declared.desk.DeskFailed.{DeskFailed}
 use Rattle.hw_desk.specs.declared.desk.Feed.{Feed}
 use Rattle.hw_desk.specs.declared.desk.Feed.TheVariants as feeds
 use Rattle.hw_desk.specs.declared.desk.Tray.TheVariants as tray
@@ -323,7 +324,7 @@ sent_meets topic {split = split} {start = start} {number = number} {w = w} is_cl
     }
 
 -- a make or a write failed
-broke_meets : (topic : Topic) {split start proof : List ℕ} {number budget : ℕ} {x y z w end : DeskState} {given : Given} {nodes : List Node} {room : RoomModel} {is_closed : Bool} {e : Status} → (h : ReadsSubject (topic_subject topic) x y given) → ReadsSplit (searched_in given.flat given.repair) split y z nodes → IsPartRoom (searched_in given.flat given.repair) nodes number room → SendsParted (judged (topic_subject topic) h.value) room start budget proof z w is_closed (Err tt) → EndsWith None w end e → Carries (part_task (topic_subject topic) split number start budget proof) x end e
+broke_meets : (topic : Topic) {split start proof : List ℕ} {number budget : ℕ} {x y z w end : DeskState} {given : Given} {nodes : List Node} {room : RoomModel} {is_closed : Bool} {e : Status} → (h : ReadsSubject (topic_subject topic) x y given) → ReadsSplit (searched_in given.flat given.repair) split y z nodes → IsPartRoom (searched_in given.flat given.repair) nodes number room → SendsParted (judged (topic_subject topic) h.value) room start budget proof z w is_closed (Err (record {})) → EndsWith None w end e → Carries (part_task (topic_subject topic) split number start budget proof) x end e
 broke_meets topic {split = split} {start = start} {proof = proof} {number = number} {budget = budget} {x = x} {w = w} {room = room} h k p m ends =
     let s = topic_subject topic in
     let there = subst (λ (ls : List Line). PartGoesOn (judged s h.value) budget ls room m.parted) m.starts.lines m.goes_on in
@@ -351,27 +352,13 @@ broke_carries topic {start = start} {proof = proof} {budget = budget} {z = z} {r
 
 -- ---- the lines are sent
 
-pub sent_on : {E : Type 0} {f : Problem} {start proof : List ℕ} {budget : ℕ} {z v w : DeskState} {room : RoomModel} {u : Unit {0}} (course : Course) (parted : Parted) → StartsCourse f start z v course → PartGoesOn course.flat.now budget course.lines.items room parted → SendsTo {E = E} proof (cert_text Three parted.lines.items) v w (Ok u) → SendsParted f room start budget proof z w parted.is_closed (Ok tt)
-sent_on {budget = budget} {v = v} {room = room} course parted h goes_on sends = record {
+pub sends_parted : {f : Problem} {start proof : List ℕ} {budget : ℕ} {z v w : DeskState} {room : RoomModel} {sent : Result Unit DeskFailed} (course : Course) (parted : Parted) → StartsCourse f start z v course → PartGoesOn course.flat.now budget course.lines.items room parted → SendsTo proof (cert_text Three parted.lines.items) v w sent → SendsParted f room start budget proof z w parted.is_closed sent
+sends_parted {budget = budget} {v = v} {room = room} course parted h goes_on sends = record {
   mid = v;
   course = course;
   starts = h;
   parted = parted;
   closed = refl;
   goes_on = subst (λ (f : Problem). PartGoesOn f budget course.lines.items room parted) h.stands.problem goes_on;
-  sends = record { only = sends.only; made = sends.made; named = sends.named; answer = sends.answer };
+  sends = sends;
 }
-
-pub broke_off : {E : Type 0} {f : Problem} {start proof : List ℕ} {budget : ℕ} {z v w : DeskState} {room : RoomModel} {fault : E} (course : Course) (parted : Parted) → StartsCourse f start z v course → PartGoesOn course.flat.now budget course.lines.items room parted → SendsTo {E = E} proof (cert_text Three parted.lines.items) v w (Err fault) → (is_closed : Bool) × SendsParted f room start budget proof z w is_closed (Err tt)
-broke_off {budget = budget} {v = v} {room = room} course parted h goes_on sends = (
-  parted.is_closed,
-  record {
-    mid = v;
-    course = course;
-    starts = h;
-    parted = parted;
-    closed = refl;
-    goes_on = subst (λ (f : Problem). PartGoesOn f budget course.lines.items room parted) h.stands.problem goes_on;
-    sends = record { only = sends.only; made = sends.made; named = sends.named; answer = sends.answer };
-  },
-)

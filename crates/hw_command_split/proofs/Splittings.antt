@@ -1,29 +1,26 @@
 -- A split of a subject, made by the best that a certificate knows.
-use Rattle.std.proofs.Common.{◌≡◌, ◌++◌, ◌∙◌, ℕ, false, List, [], ◌∷◌, Some, None, Result, Ok, Err, cond, inl, inr, append-nil, refl, subst, sym, arith}
+use Rattle.std.proofs.Common.{◌≡◌, ◌++◌, ◌∙◌, ℕ, false, List, [], ◌∷◌, Some, None, Result, Ok, Err, cond, refl, subst, sym, arith}
 use Rattle.std.specs.Prelude.{◌≤◌, ◌<◌, IfOk, count_by, length}
 use Rattle.std.proofs.lemmas.List.Sums.{sum_by-cons}
 use Rattle.hw_model.specs.Problem.{Problem, shape_of}
 use Rattle.hw_model.specs.declared.shape.Shape.{Shape}
 use Rattle.hw_desk.specs.State.{DeskState}
+use Rattle.hw_desk.specs.declared.desk.DeskFailed.{DeskFailed}
 use Rattle.hw_desk.specs.declared.desk.Feed.TheVariants.{Certificate}
 use Rattle.hw_desk.specs.declared.desk.Tray.TheVariants as tray
 use Rattle.hw_cert.specs.declared.version.Version.TheVariants.{Three}
 use Rattle.hw_cert.proofs.Answered.{told_map}
-use Rattle.hw_report.specs.Reports.{Report, Naming, no_memory, parts_told, refused, too_long}
+use Rattle.hw_report.specs.Reports.{Report, parts_told, refused, too_long}
 use Rattle.hw_command.specs.Carries.{Carries}
 use Rattle.hw_command.specs.Certificates.{report_of_check}
-use Rattle.hw_command.specs.Ends.{Ends, EndsWith}
+use Rattle.hw_command.specs.Ends.{Ends}
 use Rattle.hw_command.specs.Readings.{KeepsNone, ReadsCert}
-use Rattle.hw_command.specs.Scope.{named_feed}
 use Rattle.hw_command.specs.Sending.{SendsTo}
 use Rattle.hw_command.specs.declared.cert.ReadCert.{ReadCert}
 use Rattle.hw_command.specs.declared.outcome.CertOutcome.{CertOutcome}
 use Rattle.hw_command.specs.declared.outcome.CertStop.{CertStop}
 use Rattle.hw_command.specs.declared.status.Status.{Status}
 use Rattle.hw_command.specs.declared.status.Status.TheVariants.{WriteFault}
-use Rattle.hw_command.proofs.Begun.{wants_memory}
-use Rattle.hw_command.proofs.SentWorks.{broken_works, made, sent_works}
-use Rattle.hw_command.proofs.Stops.{stops_carries}
 use Rattle.hw_split_text.specs.declared.node.Node.{Node}
 use Rattle.hw_split_text.specs.declared.node.Node.TheVariants.{Fork, Part}
 use Rattle.hw_model.specs.declared.lit.Lit.TheVariants.{AtOrAfter, Before}
@@ -37,17 +34,17 @@ use Rattle.hw_subject.specs.Meanings.{judged}
 use Rattle.hw_subject.specs.Reading.{ReadsSubject, StopsAtSubject, naming_of, searched_in}
 use Rattle.hw_subject.specs.Subjects.{Subject, Topic, topic_subject}
 use Rattle.hw_subject.specs.declared.subject.Given.{Given}
-use Rattle.hw_subject.proofs.Certified.{all_entered, modelled}
+use Rattle.hw_subject.proofs.CertTasks as tasks
+use Rattle.hw_subject.proofs.Certified.{modelled}
 use Rattle.hw_subject.proofs.Certless.{IsCertless, certless}
-use Rattle.hw_subject.proofs.Readings.{before_last}
-use Rattle.hw_command_split.specs.MadeSplits.{ChoosesNone, IsChosenBy, IsMadeSplit, IsUndivided, SendsSizes, SendsSplit, SplitsTo}
-use Rattle.hw_command.specs.Starting.{Unstarted, shows_nothing}
+use Rattle.hw_command_split.specs.MadeSplits.{IsChosenBy, IsMadeSplit, IsUndivided, SendsSizes, SendsSplit, SplitsTo}
+use Rattle.hw_command.specs.Starting.{shows_nothing}
 use Rattle.hw_command_split.specs.Splitting.{MakesSplit, SplitSays, split_task}
 use Rattle.hw_command.specs.declared.ending.Ending.{Ending}
 use Rattle.hw_command.specs.declared.ending.Ending.TheVariants as outcomes
 use Rattle.hw_command_split.specs.declared.splitting.Sizes.{Sizes}
 use Rattle.hw_command.proofs.Started.{starts_on}
-use Rattle.hw_subject.proofs.Started.{starts, unstarted_says, unstarted_works}
+use Rattle.hw_subject.proofs.Started.{starts}
 use Rattle.hw_model_laws.proofs.Denying.{shape_fits}
 use Rattle.hw_split_text.proofs.Spelled.{one_text}
 
@@ -64,35 +61,11 @@ refuses_says s parts start proof x y (too_long Certificate) h k = absurd (h.long
 refuses_says s parts start proof x y r h k = k
 
 pub subject_stops : (topic : Topic) (parts : ℕ) (start proof : List ℕ) {x y z : DeskState} {r : Report} {e : Status} → StopsAtSubject (topic_subject topic) x y r → Ends (r ∷ []) y z e → Carries (split_task (topic_subject topic) parts start proof) x z e
-subject_stops topic parts start proof {x = x} {y = y} {r = r} h ends = stops_carries (split_task (topic_subject topic) parts start proof) (named_feed Certificate start ∷ []) h refl (λ feed given. given) (refuses_says (topic_subject topic) parts start proof x y r (certless topic)) ends
-
--- ---- the certificate is refused
-
-nothing_meets : (topic : Topic) {parts : ℕ} {start proof : List ℕ} {x y z end : DeskState} {given : Given} {e : Status} (names : Naming) (stopped : Result CertOutcome CertStop) → (h : ReadsSubject (topic_subject topic) x y given) → Unstarted KeepsNone (searched_in given.flat given.repair) start y z stopped → Ends (report_of_check names None None stopped ∷ []) z end e → Carries (split_task (topic_subject topic) parts start proof) x end e
-nothing_meets topic {parts = parts} {start = start} {proof = proof} {x = x} {z = z} names stopped h k ends = record {
-  mid = z;
-  reports = report_of_check names None None stopped ∷ [];
-  works = unstarted_works topic names k.result stopped h k.reads k.told;
-  says = λ own. unstarted_says topic names (λ r. SplitSays (topic_subject topic) parts start proof x z (Some r)) k.result stopped (λ number word hint refused. refused) (λ long. long) h k.reads k.told k.nothing own;
-  ends = ends;
-}
-
--- ---- memory ran out
-
-none_meets : (topic : Topic) {parts : ℕ} {start proof : List ℕ} {x y z end : DeskState} {given : Given} {f : Problem} {e : Status} (names : Naming) (stopped : Result CertOutcome CertStop) → ReadsSubject (topic_subject topic) x y given → ChoosesNone f start y z stopped → Ends (report_of_check names None None stopped ∷ []) z end e → Carries (split_task (topic_subject topic) parts start proof) x end e
-none_meets topic {start = start} {proof = proof} {x = x} {z = z} {end = end} {e = e} names stopped h k ends =
-    let s = topic_subject topic in
-    record {
-      mid = z;
-      reports = no_memory ∷ [];
-      works = wants_memory (Some proof) (s.inputs ++ named_feed Certificate start ∷ []) [] (sym (append-nil _)) (all_entered topic h k.knows.reads) (before_last (s.Gives x.held) s.inputs (named_feed Certificate start) h.give) (k.knows.reads.reads.0 ∙ h.read_faults);
-      says = λ own. absurd (cc);
-      ends = subst (λ (o : Result CertOutcome CertStop). Ends (report_of_check names None None o ∷ []) z end e) k.told ends;
-    }
+subject_stops topic parts start proof {x = x} {y = y} {r = r} h ends = tasks.subject_stops topic start (Some proof) (SplitSays (topic_subject topic) parts start proof) (refuses_says (topic_subject topic) parts start proof x y r (certless topic)) h ends
 
 -- ---- the split was sent
 
-abbrev makes : (topic : Topic) {parts : ℕ} {start proof : List ℕ} {x y z : DeskState} {given : Given} {sent : Result Unit Unit} (nodes : List Node) → (h : ReadsSubject (topic_subject topic) x y given) → SendsSplit (judged (topic_subject topic) h.value) start parts proof y z nodes sent → MakesSplit (topic_subject topic) parts start x.held
+abbrev makes : (topic : Topic) {parts : ℕ} {start proof : List ℕ} {x y z : DeskState} {given : Given} {sent : Result Unit DeskFailed} (nodes : List Node) → (h : ReadsSubject (topic_subject topic) x y given) → SendsSplit (judged (topic_subject topic) h.value) start parts proof y z nodes sent → MakesSplit (topic_subject topic) parts start x.held
 makes topic {parts = parts} nodes h k = record {
   starts = starts topic h k.knows;
   nodes = nodes;
@@ -104,48 +77,31 @@ makes topic {parts = parts} nodes h k = record {
 written : (topic : Topic) {parts : ℕ} {x y : DeskState} {given : Given} {nodes : List Node} (text : List ℕ) → (h : ReadsSubject (topic_subject topic) x y given) → IsMadeSplit (judged (topic_subject topic) h.value) parts nodes text → text ≡ written_split nodes
 written topic {nodes = nodes} text h made = one_text (shape_of (judged (topic_subject topic) h.value)) nodes text (shape_fits (judged (topic_subject topic) h.value) (modelled topic h).limits) made.reads
 
-sent_meets : (topic : Topic) {parts : ℕ} {start proof : List ℕ} {x y z end : DeskState} {given : Given} {e : Status} (count tolls : ℕ) (nodes : List Node) → count ≡ count_by is_part nodes → (h : ReadsSubject (topic_subject topic) x y given) → SendsSplit (judged (topic_subject topic) h.value) start parts proof y z nodes (Ok tt) → Ends (parts_told count tolls ∷ []) z end e → Carries (split_task (topic_subject topic) parts start proof) x end e
-sent_meets topic {start = start} {x = x} {z = z} count tolls nodes is h k ends =
-    let s = topic_subject topic in
-    record {
-      mid = z;
-      reports = parts_told count tolls ∷ [];
-      works = sent_works (parts_told count tolls) refl (all_entered topic h k.knows.reads) (before_last (s.Gives x.held) s.inputs (named_feed Certificate start) h.give) k.sends (k.sends.only.read_faults ∙ (k.knows.reads.reads.0 ∙ h.read_faults));
-      says = λ own. record {
-        makes = makes topic nodes h k;
-        counted = is ∙ sym (parts_counted (shape_of (judged s h.value)) nodes k.made.is);
-        made = made (all_entered topic h k.knows.reads) k.sends;
-        text = told_map (z.trays tray.Proof).sent (λ bytes same. same ∙ written topic k.text h k.made) k.sends.answer.1;
-      };
-      ends = ends;
-    }
-
-broke_meets : (topic : Topic) {parts : ℕ} {start proof : List ℕ} {x y z end : DeskState} {given : Given} {e : Status} (nodes : List Node) → (h : ReadsSubject (topic_subject topic) x y given) → SendsSplit (judged (topic_subject topic) h.value) start parts proof y z nodes (Err tt) → EndsWith None z end e → Carries (split_task (topic_subject topic) parts start proof) x end e
-broke_meets topic {start = start} {x = x} {z = z} nodes h k ends =
-    let s = topic_subject topic in
-    record {
-      mid = z;
-      reports = [];
-      works = broken_works (all_entered topic h k.knows.reads) (before_last (s.Gives x.held) s.inputs (named_feed Certificate start) h.give) (k.knows.reads.reads.0 ∙ h.read_faults) k.sends;
-      says = λ own. record { makes = makes topic nodes h k; cut = rw (sym (written topic k.text h k.made)) k.sends.answer.1 };
-      ends = ends;
-    }
-
 -- ---- by what comes of the certificate
 
 pub stopped_carries : (topic : Topic) {parts : ℕ} {start proof : List ℕ} {x y end : DeskState} {given : Given} {e : Status} (z : DeskState) (stopped : Result CertOutcome CertStop) → ReadsSubject (topic_subject topic) x y given → SplitsTo (searched_in given.flat given.repair) start parts proof y z (outcomes.Stopped stopped) → Ends (report_of_check (naming_of given.named) None None stopped ∷ []) z end e → Carries (split_task (topic_subject topic) parts start proof) x end e
-stopped_carries topic {given = given} z stopped h (inl k) ends = nothing_meets topic (naming_of given.named) stopped h k ends
-stopped_carries topic {given = given} z stopped h (inr k) ends = none_meets topic (naming_of given.named) stopped h k ends
+stopped_carries topic {parts = parts} {start = start} {proof = proof} {given = given} z stopped h k ends = tasks.stopped_carries topic (SplitSays (topic_subject topic) parts start proof) (naming_of given.named) stopped (λ number word hint refused. refused) (λ long. long) h k ends
 
 pub sent_carries : (topic : Topic) {parts : ℕ} {start proof : List ℕ} {x y end : DeskState} {given : Given} {e : Status} (z : DeskState) (sizes : Sizes) → ReadsSubject (topic_subject topic) x y given → SplitsTo (searched_in given.flat given.repair) start parts proof y z (outcomes.Sent sizes) → Ends (parts_told sizes.parts sizes.tolls ∷ []) z end e → Carries (split_task (topic_subject topic) parts start proof) x end e
-sent_carries topic {parts = parts} {start = start} {proof = proof} {y = y} z sizes h k ends =
-    let there = of_judged (topic_subject topic) start proof parts y z (outcomes.Sent sizes) h k in
-    sent_meets topic sizes.parts sizes.tolls there.0 there.1 h there.2 ends
+sent_carries topic {parts = parts} {start = start} {proof = proof} {y = y} z sizes h sent ends =
+    let s = topic_subject topic in
+    let there = of_judged s start proof parts y z (outcomes.Sent sizes) h sent in
+    let k = there.2 in
+    tasks.sent_carries topic (SplitSays s parts start proof) (parts_told sizes.parts sizes.tolls) refl (λ same. same) h k.knows.reads k.sends
+    (λ made. record {
+      makes = makes topic there.0 h k;
+      counted = there.1 ∙ sym (parts_counted (shape_of (judged s h.value)) there.0 k.made.is);
+      made = made;
+      text = told_map (z.trays tray.Proof).sent (λ bytes same. same ∙ written topic k.text h k.made) k.sends.answer.1;
+    })
+    ends
 
 pub broke_carries : (topic : Topic) {parts : ℕ} {start proof : List ℕ} {x y : DeskState} {given : Given} (z : DeskState) → ReadsSubject (topic_subject topic) x y given → SplitsTo (searched_in given.flat given.repair) start parts proof y z outcomes.WriteFailed → Carries (split_task (topic_subject topic) parts start proof) x z WriteFault
-broke_carries topic {parts = parts} {start = start} {proof = proof} {y = y} z h k =
-    let there = of_judged (topic_subject topic) start proof parts y z outcomes.WriteFailed h k in
-    broke_meets topic there.1.0 h there.1.2 (refl, refl)
+broke_carries topic {parts = parts} {start = start} {proof = proof} {y = y} z h sent =
+    let s = topic_subject topic in
+    let there = (of_judged s start proof parts y z outcomes.WriteFailed h sent).1 in
+    let k = there.2 in
+    tasks.broke_carries topic (SplitSays s parts start proof) h k.knows.reads k.sends (record { makes = makes topic there.0 h k; cut = rw (sym (written topic k.text h k.made)) k.sends.answer.1 })
 
 -- ---- what was kept of the certificate
 
@@ -177,12 +133,9 @@ unfolding split_of
 text_some shape [] nodes e = absurd (cc)
 text_some shape (byte ∷ more) nodes e = omega arith
 
-pub sent_whole : {E : Type 0} {f : Problem} {start proof text : List ℕ} {parts : ℕ} {x y z : DeskState} {nodes : List Node} {u : Unit {0}} (read : ReadCert (Unit {0})) → ReadsCert Three KeepsNone f start x y (Ok read) → shows_nothing read.outcome ≡ false → IsMadeSplit f parts nodes text → IsUndivided read.outcome nodes → SendsTo {E = E} proof text y z (Ok u) → SendsSplit f start parts proof x z nodes (Ok tt)
-sent_whole {text = text} {y = y} {nodes = nodes} read h e is one sends = record { mid = y; knows = starts_on read h e; text = text; made = is; undivided = subst (λ (o : CertOutcome). IsUndivided o nodes) (starts_on read h e).outcome one; sends = record { only = sends.only; made = sends.made; named = sends.named; answer = sends.answer } }
-
-pub sent_short : {E : Type 0} {f : Problem} {start proof text : List ℕ} {parts : ℕ} {x y z : DeskState} {nodes : List Node} {fault : E} (read : ReadCert (Unit {0})) → ReadsCert Three KeepsNone f start x y (Ok read) → shows_nothing read.outcome ≡ false → IsMadeSplit f parts nodes text → IsUndivided read.outcome nodes → SendsTo {E = E} proof text y z (Err fault) → SendsSplit f start parts proof x z nodes (Err tt)
-sent_short {text = text} {y = y} {nodes = nodes} read h e is one sends = record { mid = y; knows = starts_on read h e; text = text; made = is; undivided = subst (λ (o : CertOutcome). IsUndivided o nodes) (starts_on read h e).outcome one; sends = record { only = sends.only; made = sends.made; named = sends.named; answer = sends.answer } }
+pub sends_split : {f : Problem} {start proof text : List ℕ} {parts : ℕ} {x y z : DeskState} {nodes : List Node} {sent : Result Unit DeskFailed} (read : ReadCert (Unit {0})) → ReadsCert Three KeepsNone f start x y (Ok read) → shows_nothing read.outcome ≡ false → IsMadeSplit f parts nodes text → IsUndivided read.outcome nodes → SendsTo proof text y z sent → SendsSplit f start parts proof x z nodes sent
+sends_split {text = text} {y = y} {nodes = nodes} read h e is one sends = record { mid = y; knows = starts_on read h e; text = text; made = is; undivided = subst (λ (o : CertOutcome). IsUndivided o nodes) (starts_on read h e).outcome one; sends = sends }
 
 -- of no size that is told
-pub sizes_broke : {f : Problem} {start proof : List ℕ} {parts : ℕ} {x z : DeskState} {nodes : List Node} → SendsSplit f start parts proof x z nodes (Err tt) → (sizes : Sizes) × SendsSizes f start parts proof x z sizes (Err tt)
+pub sizes_broke : {f : Problem} {start proof : List ℕ} {parts : ℕ} {x z : DeskState} {nodes : List Node} → SendsSplit f start parts proof x z nodes (Err (record {})) → (sizes : Sizes) × SendsSizes f start parts proof x z sizes (Err (record {}))
 sizes_broke {nodes = nodes} h = (record { parts = count_by is_part nodes; tolls = 0 }, (nodes, refl, h))

@@ -4,6 +4,7 @@ use Rattle.std.specs.List.{starts_with}
 use Rattle.std.specs.declared.alloc.Global.{Global}
 use Rattle.hw_model.specs.Problem.{Problem, shape_of}
 use Rattle.hw_desk.specs.State.{DeskState}
+use Rattle.hw_desk.specs.declared.desk.DeskFailed.{DeskFailed}
 use Rattle.hw_desk.specs.declared.desk.Feed.TheVariants.{Certificate}
 use Rattle.hw_desk.specs.declared.whole.ReadStop.{ReadStop}
 use Rattle.hw_desk.specs.declared.whole.ReadStop.TheVariants as reads
@@ -148,7 +149,7 @@ pub record Unjoined (f : Problem) (certs : List ℕ) (old new : DeskState) (stop
   pub told : stopped ≡ stop_outcome stop
 
 -- the joined lines are sent to Proof
-pub record SendsJoined (f : Problem) (nodes : List Node) (certs proof : List ℕ) (old new : DeskState) (j : Joined) (sent : Result Unit Unit) : Type 0 where
+pub record SendsJoined (f : Problem) (nodes : List Node) (certs proof : List ℕ) (old new : DeskState) (j : Joined) (sent : Result Unit DeskFailed) : Type 0 where
   pub mid : DeskState
   pub taken : Vec (Vec Line Global) Global
   pub reads : ReadsCerts f certs old mid (Ok taken)

@@ -1,20 +1,19 @@
 -- A split that is chosen by the best timetable of a certificate, and sent.
-use Rattle.std.specs.Prelude.{◌≡◌, ◌≤◌, ◌⊎◌, ℕ, List, Option, Some, None, Result, Ok, Err, count_by}
+use Rattle.std.specs.Prelude.{◌≡◌, ◌≤◌, ℕ, List, Option, Some, None, Result, Ok, count_by}
 use Rattle.hw_model.specs.Problem.{Problem, shape_of}
 use Rattle.hw_desk.specs.State.{DeskState}
+use Rattle.hw_desk.specs.declared.desk.DeskFailed.{DeskFailed}
 use Rattle.hw_cert_lines.specs.declared.check.Verdict.TheVariants as verdicts
 use Rattle.hw_command.specs.Readings.{KeepsNone}
 use Rattle.hw_command.specs.Sending.{SendsTo}
 use Rattle.hw_command.specs.declared.outcome.CertOutcome.{CertOutcome}
 use Rattle.hw_command.specs.declared.outcome.CertOutcome.TheVariants.{Shows, Wrong, TooLong}
-use Rattle.hw_command.specs.declared.outcome.CertStop.{CertStop}
-use Rattle.hw_command.specs.declared.outcome.CertStop.TheVariants.{NoMemory}
 use Rattle.hw_split_text.specs.declared.node.Node.{Node}
 use Rattle.hw_split_text.specs.Splits.{IsSplit, is_part}
 use Rattle.hw_split_text.specs.Text.{split_text}
 use Rattle.hw_split_choice.specs.Chosen.{IsChosen}
 use Rattle.hw_split_choice.specs.declared.chosen.ChosenSplit.{ChosenSplit}
-use Rattle.hw_command.specs.Starting.{StartsOn, Unstarted}
+use Rattle.hw_command.specs.Starting.{StartsOn, StopsOnStart}
 use Rattle.hw_command.specs.WorkEnds.{WorkEnds}
 use Rattle.hw_command.specs.declared.ending.Ending.{Ending}
 use Rattle.hw_command_split.specs.declared.splitting.Sizes.{Sizes}
@@ -42,13 +41,8 @@ pub record IsMadeSplit (f : Problem) (parts : ℕ) (nodes : List Node) (text : L
   pub is : IsSplit (shape_of f) nodes
   pub few : count_by is_part nodes ≤ parts
 
--- memory ran out for the split
-pub record ChoosesNone (f : Problem) (start : List ℕ) (old new : DeskState) (stopped : Result CertOutcome CertStop) : Type 0 where
-  pub knows : StartsOn KeepsNone f start old new
-  pub told : stopped ≡ Err NoMemory
-
 -- a split is sent to Proof, of one part where what the certificate shows leaves nothing open
-pub record SendsSplit (f : Problem) (start : List ℕ) (parts : ℕ) (proof : List ℕ) (old new : DeskState) (nodes : List Node) (sent : Result Unit Unit) : Type 0 where
+pub record SendsSplit (f : Problem) (start : List ℕ) (parts : ℕ) (proof : List ℕ) (old new : DeskState) (nodes : List Node) (sent : Result Unit DeskFailed) : Type 0 where
   pub mid : DeskState
   pub knows : StartsOn KeepsNone f start old mid
   pub text : List ℕ
@@ -56,14 +50,10 @@ pub record SendsSplit (f : Problem) (start : List ℕ) (parts : ℕ) (proof : Li
   pub undivided : IsUndivided (Shows knows.shows) nodes
   pub sends : SendsTo proof text mid new sent
 
--- nothing is sent where the certificate shows nothing, or memory ran out
-abbrev pub SplittingStops : Problem → List ℕ → DeskState → DeskState → Result CertOutcome CertStop → Type 0
-SplittingStops f start old new stopped = Unstarted KeepsNone f start old new stopped ⊎ ChoosesNone f start old new stopped
-
 -- a split of this many parts is sent; nothing is said of the number of tolls
-abbrev pub SendsSizes : Problem → List ℕ → ℕ → List ℕ → DeskState → DeskState → Sizes → Result Unit Unit → Type 0
+abbrev pub SendsSizes : Problem → List ℕ → ℕ → List ℕ → DeskState → DeskState → Sizes → Result Unit DeskFailed → Type 0
 SendsSizes f start parts proof old new sizes sent = (nodes : List Node) × (sizes.parts ≡ count_by is_part nodes) × SendsSplit f start parts proof old new nodes sent
 
 -- what comes of a certificate
 abbrev pub SplitsTo : Problem → List ℕ → ℕ → List ℕ → DeskState → DeskState → Ending Sizes → Type 0
-SplitsTo f start parts proof old new end = WorkEnds (SplittingStops f start) (SendsSizes f start parts proof) old new end
+SplitsTo f start parts proof old new end = WorkEnds (StopsOnStart KeepsNone f start) (SendsSizes f start parts proof) old new end

@@ -3,6 +3,7 @@ use Rattle.std.specs.Prelude.{◌≡◌, ◌⊎◌, ℕ, ◌+◌, Bool, List, So
 use Rattle.hw_model.specs.Problem.{Problem, shape_of}
 use Rattle.hw_model.specs.Rooms.{RoomModel}
 use Rattle.hw_desk.specs.State.{DeskState}
+use Rattle.hw_desk.specs.declared.desk.DeskFailed.{DeskFailed}
 use Rattle.hw_desk.specs.declared.desk.Feed.TheVariants.{Split}
 use Rattle.hw_cert.specs.declared.version.Version.TheVariants.{Three}
 use Rattle.hw_cert.specs.Texts.{cert_text}
@@ -50,7 +51,7 @@ pub record PartUnanswered (f : Problem) (room : RoomModel) (start : List ℕ) (o
   pub told : stopped ≡ stop_outcome stop
 
 -- its lines with those that the search added are sent to Proof; whether they close the part
-pub record SendsParted (f : Problem) (room : RoomModel) (start : List ℕ) (budget : ℕ) (proof : List ℕ) (old new : DeskState) (is_closed : Bool) (sent : Result Unit Unit) : Type 0 where
+pub record SendsParted (f : Problem) (room : RoomModel) (start : List ℕ) (budget : ℕ) (proof : List ℕ) (old new : DeskState) (is_closed : Bool) (sent : Result Unit DeskFailed) : Type 0 where
   pub mid : DeskState
   pub course : Course
   pub starts : StartsCourse f start old mid course

@@ -1,13 +1,13 @@
 -- `split` of any subject: a certificate is checked as by `verify`, and a split is made by the best that it knows.
-use Rattle.std.specs.Prelude.{◌≡◌, ◌≤◌, ℕ, List, [], ◌∷◌, ◌++◌, Option, Some, None, IfSome, length}
+use Rattle.std.specs.Prelude.{◌≡◌, ◌≤◌, ℕ, List, Option, Some, None, IfSome, length}
 use Rattle.hw_model.specs.Problem.{shape_of}
 use Rattle.hw_desk.specs.State.{DeskState}
 use Rattle.hw_desk.specs.declared.desk.Feed.TheVariants.{Certificate}
 use Rattle.hw_desk.specs.declared.desk.Tray.TheVariants as tray
 use Rattle.hw_cert.specs.declared.version.Version.TheVariants.{Three}
 use Rattle.hw_report.specs.Reports.{Report, parts_told, refused, too_long}
-use Rattle.hw_command.specs.Carries.{Task, one_report}
-use Rattle.hw_command.specs.Scope.{named_feed, MakesProof}
+use Rattle.hw_command.specs.Carries.{Task}
+use Rattle.hw_command.specs.Scope.{MakesProof}
 use Rattle.hw_command.specs.Sending.{IsCutOf}
 use Rattle.hw_command.specs.declared.outcome.CertOutcome.TheVariants.{Shows, Wrong, TooLong}
 use Rattle.hw_split_text.specs.declared.node.Node.{Node}
@@ -16,6 +16,7 @@ use Rattle.hw_split_text.specs.Written.{written_split}
 use Rattle.hw_subject.specs.Meanings.{judged}
 use Rattle.hw_subject.specs.Shown.{Refused, Starts}
 use Rattle.hw_subject.specs.Subjects.{Subject}
+use Rattle.hw_subject.specs.CertTasks.{cert_task}
 use Rattle.hw_command_split.specs.MadeSplits.{open_best}
 
 -- what is read, what the certificate shows, and a split of the judged problem of at most this many parts, of one where that leaves nothing open
@@ -47,9 +48,4 @@ SplitSays s parts start proof old new (Some (too_long Certificate)) = Refused s 
 SplitSays s parts start proof old new (Some r) = s.Refuses old.held r
 
 abbrev pub split_task : Subject → ℕ → List ℕ → List ℕ → Task
-split_task s parts start proof = record {
-  inputs = s.inputs ++ (named_feed Certificate start ∷ []);
-  Gives = s.Gives;
-  proof = Some proof;
-  Says = one_report (SplitSays s parts start proof);
-}
+split_task s parts start proof = cert_task s start (Some proof) (SplitSays s parts start proof)

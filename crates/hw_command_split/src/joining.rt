@@ -16,9 +16,10 @@ ghost use Rattle.hw_command_split.specs.Joining.{join_task};
 
 use crate::certificates::read_certs;
 use crate::split_input::read_split_input;
+use hw_cert::Version;
 use hw_cert_join::{Joined, join};
 use hw_command::{
-    CertOutcome, Ending, Status, check_report, finish, send_third, status_of, stop_outcome,
+    CertOutcome, Ending, Status, check_report, finish, send_lines, status_of, stop_outcome,
 };
 use hw_desk::Desk;
 use hw_flat::Flat;
@@ -85,7 +86,7 @@ fn join_to<D: Desk>(
         Ok(joined) => joined,
         Err(stop) => return Ending::Stopped(stop_outcome(stop)),
     };
-    match send_third(desk, &joined.lines, proof) {
+    match send_lines(desk, Version::Three, &joined.lines, proof) {
         Ok(()) => Ending::Sent(joined),
         Err(_) => Ending::WriteFailed,
     }

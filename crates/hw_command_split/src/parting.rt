@@ -11,7 +11,8 @@ ghost use Rattle.hw_command_split.specs.Parting.{part_task_of};
 ghost use Rattle.hw_command_split.specs.Parts.{PartsTo};
 
 use crate::split_input::{part_room, read_split_input};
-use hw_command::{Ending, Status, check_report, finish, read_start, send_third, stop_outcome};
+use hw_cert::Version;
+use hw_command::{Ending, Status, check_report, finish, read_start, send_lines, stop_outcome};
 use hw_desk::Desk;
 use hw_flat::{Flat, Room};
 use hw_price_adviser::PricingAdviser;
@@ -101,7 +102,7 @@ fn part_to<D: Desk>(
         Ok(parted) => parted,
         Err(stop) => return Ending::Stopped(stop_outcome(stop)),
     };
-    match send_third(desk, &parted.lines, words.proof) {
+    match send_lines(desk, Version::Three, &parted.lines, words.proof) {
         Ok(()) => Ending::Sent(parted.is_closed),
         Err(_) => Ending::WriteFailed,
     }

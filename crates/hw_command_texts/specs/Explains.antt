@@ -1,16 +1,15 @@
 -- `explain repair` of a flat text or a port: what the timetable of a certificate makes of the plan that it repairs.
-use Rattle.std.specs.Prelude.{◌≡◌, ℕ, List, [], ◌∷◌, ◌++◌, Option, None, Some}
+use Rattle.std.specs.Prelude.{◌≡◌, ℕ, List, Option, None, Some}
 use Rattle.hw_desk.specs.State.{DeskState}
-use Rattle.hw_desk.specs.declared.desk.Feed.TheVariants.{Certificate}
 use Rattle.hw_cert_lines.specs.declared.check.Verdict.{Verdict}
 use Rattle.hw_cert.specs.declared.version.Version.TheVariants.{Three}
 use Rattle.hw_repair.specs.Wishes.{PlanParts}
 use Rattle.hw_repair_text.specs.Texts.{repair_text}
 use Rattle.hw_report.specs.Reports.{Report, Naming, checked, whole_text}
-use Rattle.hw_command.specs.Carries.{Task, one_report}
-use Rattle.hw_command.specs.Scope.{named_feed}
+use Rattle.hw_command.specs.Carries.{Task}
 use Rattle.hw_subject.specs.Meanings.{repair_ships}
 use Rattle.hw_subject.specs.Subjects.{Subject}
+use Rattle.hw_subject.specs.CertTasks.{cert_task}
 use Rattle.hw_subject.specs.Checks.{Checks}
 use Rattle.hw_subject.specs.Shown.{Shown}
 
@@ -45,9 +44,4 @@ ExplainSays s cert old None = ⊥
 ExplainSays s cert old (Some r) = ExplainsRepair s cert old.held r
 
 abbrev pub explain_repair_task : Subject → List ℕ → Task
-explain_repair_task s cert = record {
-  inputs = s.inputs ++ (named_feed Certificate cert ∷ []);
-  Gives = s.Gives;
-  proof = None;
-  Says = one_report (λ old new. ExplainSays s cert old);
-}
+explain_repair_task s cert = cert_task s cert None (λ old new. ExplainSays s cert old)

@@ -1,14 +1,13 @@
 -- `table` of a port or of the repair of its plan: the plan that a certificate of any version shows, as CSV.
-use Rattle.std.specs.Prelude.{◌≡◌, ℕ, List, [], ◌∷◌, ◌++◌, Option, None, Some}
+use Rattle.std.specs.Prelude.{◌≡◌, ℕ, List, [], Option, None, Some}
 use Rattle.hw_desk.specs.State.{DeskState}
-use Rattle.hw_desk.specs.declared.desk.Feed.TheVariants.{Certificate}
 use Rattle.hw_cert_lines.specs.declared.check.Verdict.{Verdict}
 use Rattle.hw_cert.specs.declared.version.Version.TheVariants.{Three}
 use Rattle.hw_port_csv.specs.Tables.{whole_table_text}
 use Rattle.hw_report.specs.Reports.{Report, Naming, by_number, by_name, checked, picture}
-use Rattle.hw_command.specs.Carries.{Task, one_report}
-use Rattle.hw_command.specs.Scope.{named_feed}
+use Rattle.hw_command.specs.Carries.{Task}
 use Rattle.hw_subject.specs.Subjects.{Subject}
+use Rattle.hw_subject.specs.CertTasks.{cert_task}
 use Rattle.hw_subject.specs.Checks.{Checks}
 use Rattle.hw_subject.specs.Shown.{Shown}
 
@@ -37,9 +36,4 @@ TableSays s cert old None = ⊥
 TableSays s cert old (Some r) = Tables s cert old.held r
 
 abbrev pub table_task : Subject → List ℕ → Task
-table_task s cert = record {
-  inputs = s.inputs ++ (named_feed Certificate cert ∷ []);
-  Gives = s.Gives;
-  proof = None;
-  Says = one_report (λ old new. TableSays s cert old);
-}
+table_task s cert = cert_task s cert None (λ old new. TableSays s cert old)

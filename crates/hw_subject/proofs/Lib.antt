@@ -13,3 +13,4 @@ pub mod Decided
 pub mod SameLines
 pub mod Reports
 pub mod Started
+pub mod CertTasks

@@ -1,15 +1,15 @@
 -- `check` and `verify` of any subject: a certificate is checked line by line, up to the second version or up to the third.
-use Rattle.std.specs.Prelude.{◌≡◌, ℕ, List, [], ◌∷◌, ◌++◌, Option, Some, None}
+use Rattle.std.specs.Prelude.{◌≡◌, ℕ, List, Option, Some, None}
 use Rattle.hw_desk.specs.State.{DeskState}
 use Rattle.hw_desk.specs.declared.desk.Feed.TheVariants.{Certificate}
 use Rattle.hw_cert_lines.specs.declared.check.Verdict.{Verdict}
 use Rattle.hw_cert.specs.declared.version.Version.{Version}
 use Rattle.hw_repair.specs.Wishes.{PlanParts}
 use Rattle.hw_report.specs.Reports.{Report, Naming, checked, refused, too_long}
-use Rattle.hw_command.specs.Carries.{Task, one_report}
-use Rattle.hw_command.specs.Scope.{named_feed}
+use Rattle.hw_command.specs.Carries.{Task}
 use Rattle.hw_command.specs.declared.outcome.CertOutcome.TheVariants.{Wrong, TooLong}
 use Rattle.hw_subject.specs.Subjects.{Subject}
+use Rattle.hw_subject.specs.CertTasks.{cert_task}
 use Rattle.hw_subject.specs.Shown.{Shown, Refused}
 
 -- what is read of the inputs, each where it is told, and what the certificate shows of it; told in its names, and by its plan, if there is one
@@ -33,9 +33,4 @@ CheckSays s most cert old None = ⊥
 CheckSays s most cert old (Some r) = Checks s most cert old.held r
 
 abbrev pub check_task : Subject → Version → List ℕ → Task
-check_task s most cert = record {
-  inputs = s.inputs ++ (named_feed Certificate cert ∷ []);
-  Gives = s.Gives;
-  proof = None;
-  Says = one_report (λ old new. CheckSays s most cert old);
-}
+check_task s most cert = cert_task s cert None (λ old new. CheckSays s most cert old)

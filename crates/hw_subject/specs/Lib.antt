@@ -4,6 +4,7 @@ pub mod Plans
 pub mod PlanInputs
 pub mod Reading
 pub mod Shown
+pub mod CertTasks
 pub mod Checks
 pub mod Texts
 pub mod Laws

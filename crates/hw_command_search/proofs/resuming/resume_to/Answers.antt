@@ -1,7 +1,8 @@
-use Rattle.std.proofs.Common.{inr, subst}
+use Rattle.std.proofs.Common.{inr, refl, subst}
 use Rattle.hw_model.specs.Problem.{Problem}
 use Rattle.hw_search_resumed.specs.Going.{ResumingStopsFor}
-use Rattle.hw_command_search.proofs.Resumptions.{broke_off, sent_on}
+use Rattle.hw_command_search.specs.Resuming.{resumed_found}
+use Rattle.hw_command_search.proofs.Resumptions.{sends_resumed}
 use Rattle.hw_command_search.proofs.resuming.resume_to.Goals as goal
 
 pub returns-in-Err-resume : goal.returns-in-Err-resume
@@ -15,8 +16,10 @@ returns-in-Err-resume g c =
       told = c.stop_outcome.ensures;
     })
 
-pub returns-in-Ok-send_third : goal.returns-in-Ok-send_third
-returns-in-Ok-send_third g c = sent_on c.in-Ok.start c.in-Ok-resume.resumed _ c.in-Ok.ensures c.resumed_found.ensures c.in-Ok-resume.ensures (rw c.deref.ensures.value at c.in-Ok-send_third.ensures)
+pub returns-in-Ok-send_lines : goal.returns-in-Ok-send_lines
+returns-in-Ok-send_lines g c = sends_resumed c.in-Ok.start c.in-Ok-resume.resumed _ c.in-Ok.ensures c.resumed_found.ensures c.in-Ok-resume.ensures (rw c.deref.ensures.value at c.in-Ok-send_lines.ensures)
 
-pub returns-in-Err-send_third : goal.returns-in-Err-send_third
-returns-in-Err-send_third g c = broke_off c.in-Ok.start c.in-Ok-resume.resumed c.in-Ok.ensures c.in-Ok-resume.ensures (rw c.deref.ensures.value at c.in-Err-send_third.ensures)
+pub returns-in-Err-send_lines : goal.returns-in-Err-send_lines
+returns-in-Err-send_lines g c =
+    let found = resumed_found c.args.budget c.in-Ok-resume.resumed in
+    (found, sends_resumed c.in-Ok.start c.in-Ok-resume.resumed found c.in-Ok.ensures refl c.in-Ok-resume.ensures (rw c.deref.ensures.value at c.in-Err-send_lines.ensures))

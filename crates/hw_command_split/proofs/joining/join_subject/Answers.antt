@@ -1,9 +1,4 @@
-use Rattle.std.proofs.Common.{◌≡◌, ◌∙◌, [], ◌∷◌, None, ap, subst}
-use Rattle.hw_report.specs.Reports.{Naming, Report}
-use Rattle.hw_report.specs.Seen.{report_seen}
-use Rattle.hw_command.specs.Certificates.{report_of_check}
-use Rattle.hw_command.specs.Ends.{Ends}
-use Rattle.hw_subject.specs.Reading.{naming_of}
+use Rattle.hw_command.proofs.CertWorks.{ends_in}
 use Rattle.hw_subject.specs.Subjects.{topic_seen}
 use Rattle.hw_command_split.proofs.Joinings.{broke_carries, sent_carries, split_refused, stopped_carries, subject_stops}
 use Rattle.hw_command_split.proofs.SplitInputs.{unread_cert, unread_split}
@@ -25,11 +20,7 @@ pub join_to-requires-clause-unread : goal.join_to-requires-clause-unread
 join_to-requires-clause-unread g c = unread_cert (topic_seen c.args.subject) c.requires.fresh c.in-Ok.ensures.given (rw c.searched-flat.ensures at c.in-Ok-read_split_input.ensures.split)
 
 pub returns-in-Stopped : goal.returns-in-Stopped
-returns-in-Stopped g c =
-    let w = g.D.Desk.state c.join_to.new.desk in
-    let end = g.D.Desk.state c.finish-in-Stopped.new.desk in
-    let told : report_seen c.check_report.result ≡ report_of_check (naming_of c.in-Ok.given.named) None None c.in-Stopped.stopped = c.check_report.ensures.value ∙ ap (λ (names : Naming). report_of_check names None None c.in-Stopped.stopped) c.names.ensures in
-    stopped_carries (topic_seen c.args.subject) w c.in-Stopped.stopped c.in-Ok.ensures.given (rw c.searched-flat.ensures at c.in-Ok-read_split_input.ensures.split) (rw c.searched-flat.ensures at c.in-Stopped.ensures) (subst (λ (r : Report). Ends (r ∷ []) w end c.finish-in-Stopped.result) told c.finish-in-Stopped.ensures)
+returns-in-Stopped g c = stopped_carries (topic_seen c.args.subject) (g.D.Desk.state c.join_to.new.desk) c.in-Stopped.stopped c.in-Ok.ensures.given (rw c.searched-flat.ensures at c.in-Ok-read_split_input.ensures.split) (rw c.searched-flat.ensures at c.in-Stopped.ensures) (ends_in c.in-Stopped.stopped c.check_report.ensures.value c.names.ensures c.finish-in-Stopped.ensures)
 
 pub returns-in-Sent : goal.returns-in-Sent
 returns-in-Sent g c = sent_carries (topic_seen c.args.subject) (g.D.Desk.state c.join_to.new.desk) c.in-Sent.joined c.in-Ok.ensures.given (rw c.searched-flat.ensures at c.in-Ok-read_split_input.ensures.split) (rw c.searched-flat.ensures at c.in-Sent.ensures) (rw c.repaired_ships.ensures at (rw c.names-in-Sent.ensures at c.finish_joined.ensures))

@@ -10,12 +10,10 @@ join-requires g c = record { fit = rw c.deref.ensures.value c.in-Ok.ensures.answ
 pub returns-in-Err-join : goal.returns-in-Err-join
 returns-in-Err-join g c = inr (record { taken = c.in-Ok.certs; reads = c.in-Ok.ensures; stop = c.in-Err-join.stop; cause = c.in-Err-join.ensures; told = c.stop_outcome.ensures })
 
-pub returns-in-Ok-send_third : goal.returns-in-Ok-send_third
-returns-in-Ok-send_third g c =
-    let sends = rw c.deref-2.ensures.value at c.in-Ok-send_third.ensures in
-    record { mid = g.D.Desk.state c.read_certs.new.desk; taken = c.in-Ok.certs; reads = c.in-Ok.ensures; joins = rw c.deref.ensures.value at c.in-Ok-join.ensures; sends = record { only = sends.only; made = sends.made; named = sends.named; answer = sends.answer } }
+pub returns-in-Ok-send_lines : goal.returns-in-Ok-send_lines
+returns-in-Ok-send_lines g c =
+    record { mid = g.D.Desk.state c.read_certs.new.desk; taken = c.in-Ok.certs; reads = c.in-Ok.ensures; joins = rw c.deref.ensures.value at c.in-Ok-join.ensures; sends = rw c.deref-2.ensures.value at c.in-Ok-send_lines.ensures }
 
 pub returns : goal.returns
 returns g c =
-    let sends = rw c.deref-2.ensures.value at c.in-Err-send_third.ensures in
-    (c.in-Ok-join.joined, record { mid = g.D.Desk.state c.read_certs.new.desk; taken = c.in-Ok.certs; reads = c.in-Ok.ensures; joins = rw c.deref.ensures.value at c.in-Ok-join.ensures; sends = record { only = sends.only; made = sends.made; named = sends.named; answer = sends.answer } })
+    (c.in-Ok-join.joined, record { mid = g.D.Desk.state c.read_certs.new.desk; taken = c.in-Ok.certs; reads = c.in-Ok.ensures; joins = rw c.deref.ensures.value at c.in-Ok-join.ensures; sends = rw c.deref-2.ensures.value at c.in-Err-send_lines.ensures })

@@ -1,7 +1,7 @@
 use Rattle.std.proofs.Common.{inr, subst}
 use Rattle.hw_model.specs.Problem.{Problem}
 use Rattle.hw_search_resumed.specs.Parts.{PartStopsFor}
-use Rattle.hw_command_split.proofs.Partings.{broke_off, sent_on}
+use Rattle.hw_command_split.proofs.Partings.{sends_parted}
 use Rattle.hw_command_split.proofs.parting.part_to.Goals as goal
 
 pub returns-in-Err-part : goal.returns-in-Err-part
@@ -15,8 +15,8 @@ returns-in-Err-part g c =
       told = c.stop_outcome.ensures;
     })
 
-pub returns-in-Ok-send_third : goal.returns-in-Ok-send_third
-returns-in-Ok-send_third g c = sent_on c.in-Ok.start c.in-Ok-part.parted c.in-Ok.ensures c.in-Ok-part.ensures (rw c.deref.ensures.value at c.in-Ok-send_third.ensures)
+pub returns-in-Ok-send_lines : goal.returns-in-Ok-send_lines
+returns-in-Ok-send_lines g c = sends_parted c.in-Ok.start c.in-Ok-part.parted c.in-Ok.ensures c.in-Ok-part.ensures (rw c.deref.ensures.value at c.in-Ok-send_lines.ensures)
 
 pub returns : goal.returns
-returns g c = broke_off c.in-Ok.start c.in-Ok-part.parted c.in-Ok.ensures c.in-Ok-part.ensures (rw c.deref.ensures.value at c.in-Err-send_third.ensures)
+returns g c = (c.in-Ok-part.parted.is_closed, sends_parted c.in-Ok.start c.in-Ok-part.parted c.in-Ok.ensures c.in-Ok-part.ensures (rw c.deref.ensures.value at c.in-Err-send_lines.ensures))
