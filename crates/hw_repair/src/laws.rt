@@ -2,6 +2,7 @@
 
 ghost use Rattle.hw_repair.specs.Laws.{RepairedValue, RepairedFits, RepairedPermits, RepairedCargo, RepairedMeets, BestRepair, NoneRepair, WrittenReads};
 ghost use Rattle.hw_repair.specs.Rows.{RepairRows, PlanRows, WrittenRows};
+ghost use Rattle.hw_repair.specs.TimedRows.{TimedTextRows, TimedWrittenRows};
 
 /// The value of a ship in a slot, by its wish and the problem's value there.
 pub fn repaired_value()
@@ -57,4 +58,14 @@ pub fn plan_rows()
 /// Worked rows: the texts of plans.
 pub fn written_rows()
     ensures { WrittenRows }
+{}
+
+/// Worked rows: what texts of plans that know the time say.
+pub fn timed_text_rows()
+    ensures { TimedTextRows }
+{}
+
+/// Worked rows: the texts of plans that know the time.
+pub fn timed_written_rows()
+    ensures { TimedWrittenRows }
 {}

@@ -22,7 +22,8 @@ pub use fault::{PlanFault, PlanWord};
 pub use gone::is_gone;
 pub use laws::{
     best_repair, none_repair, plan_rows, repair_rows, repaired_cargo, repaired_fits,
-    repaired_meets, repaired_permits, repaired_value, written_reads, written_rows,
+    repaired_meets, repaired_permits, repaired_value, timed_text_rows, timed_written_rows,
+    written_reads, written_rows,
 };
 pub use moving::{counted, moved};
 pub use plan::{Judged, Plan, Wish};
