@@ -7,33 +7,37 @@ use Rattle.hw_lemmas.proofs.Lists.{get_within}
 use Rattle.hw_plan_texts.proofs.Grids.{grid_value}
 use Rattle.hw_model.specs.Problem.{Problem, value_at}
 use Rattle.hw_repair.specs.declared.plan.Wish.{Wish}
-use Rattle.hw_repair.specs.declared.plan.Wish.TheVariants.{Kept, Planned}
-use Rattle.hw_repair.specs.Wishes.{PlanParts, Grants, grants, IsRepairable, PlanFits}
-use Rattle.hw_repair.specs.Repaired.{repaired_worth, repaired_value, value_by, repaired}
-use Rattle.hw_repair.specs.Laws.{RepairedValue}
+use Rattle.hw_repair.specs.declared.plan.Wish.TheVariants.{Kept, Fixed, Planned, New}
+use Rattle.hw_repair.specs.Wishes.{Grants, grants, IsRepairable}
+use Rattle.hw_repair.specs.Repaired.{repaired_worth, repaired_value, value_by, repaired_by}
 
 pub grants_of : (wish : Wish) (slot : ℕ) → grants wish slot ≡ true → Grants wish slot
 grants_of (Kept kept) slot e = eqb-true slot kept e
+grants_of (Fixed fixed) slot e = eqb-true slot fixed e
 grants_of (Planned planned from) slot e = leb-true from slot e
+grants_of (New from) slot e = leb-true from slot e
 
 pub of_grants : (wish : Wish) (slot : ℕ) → Grants wish slot → grants wish slot ≡ true
 of_grants (Kept kept) slot h = eq-eqb slot kept h
+of_grants (Fixed fixed) slot h = eq-eqb slot fixed h
 of_grants (Planned planned from) slot h = le-leb from slot h
+of_grants (New from) slot h = le-leb from slot h
 
 -- ---- the value in a slot
 
-pub value_is : RepairedValue
-value_is f plan ship slot wish same e lt =
-    let in' : ship < f.ships = omega (arith, get_within plan.wishes ship wish e, same) in
-    grid_value (repaired f plan) (value_by f plan) ship slot refl in' lt
-    ∙ ap (option_and_then (λ w. repaired_value f.ships w slot (value_at f ship slot))) e
+pub value_is : (g : Problem) (wishes : List Wish) (ship slot : ℕ) (wish : Wish) → length wishes ≡ g.ships → slice_get wishes ship ≡ Some wish → slot < g.slots
+    → value_at (repaired_by g wishes) ship slot ≡ repaired_value g.ships wish slot (value_at g ship slot)
+value_is g wishes ship slot wish same e lt =
+    let in' : ship < g.ships = omega (arith, get_within wishes ship wish e, same) in
+    grid_value (repaired_by g wishes) (value_by g wishes) ship slot refl in' lt
+    ∙ ap (option_and_then (λ w. repaired_value g.ships w slot (value_at g ship slot))) e
 
 -- what a granted slot carries
-pub granted_value : (f : Problem) (plan : PlanParts) (ship slot : ℕ) (wish : Wish) → length plan.wishes ≡ f.ships → slice_get plan.wishes ship ≡ Some wish → slot < f.slots → Grants wish slot
-    → value_at (repaired f plan) ship slot ≡ option_map (repaired_worth f.ships wish slot) (value_at f ship slot)
-granted_value f plan ship slot wish same e lt g =
-    value_is f plan ship slot wish same e lt
-    ∙ ap (λ (b : Bool). cond b (option_map (repaired_worth f.ships wish slot) (value_at f ship slot)) None) (of_grants wish slot g)
+pub granted_value : (g : Problem) (wishes : List Wish) (ship slot : ℕ) (wish : Wish) → length wishes ≡ g.ships → slice_get wishes ship ≡ Some wish → slot < g.slots → Grants wish slot
+    → value_at (repaired_by g wishes) ship slot ≡ option_map (repaired_worth g.ships wish slot) (value_at g ship slot)
+granted_value g wishes ship slot wish same e lt granted =
+    value_is g wishes ship slot wish same e lt
+    ∙ ap (λ (b : Bool). cond b (option_map (repaired_worth g.ships wish slot) (value_at g ship slot)) None) (of_grants wish slot granted)
 
 -- a value is there exactly where the wish grants the slot and the problem has one
 some_parts : (b : Bool) (g : ℕ → ℕ) (o : Option ℕ) → IsSome (cond b (option_map g o) None) → (b ≡ true) × IsSome o
@@ -45,27 +49,27 @@ some_map : (g : ℕ → ℕ) (o : Option ℕ) → IsSome o → IsSome (option_ma
 some_map g None h = absurd cc
 some_map g (Some x) h = refl
 
-pub value_there : (f : Problem) (plan : PlanParts) (ship slot : ℕ) (wish : Wish) → length plan.wishes ≡ f.ships → slice_get plan.wishes ship ≡ Some wish → slot < f.slots → IsSome (value_at (repaired f plan) ship slot) → Grants wish slot × IsSome (value_at f ship slot)
-value_there f plan ship slot wish same e lt h =
-    let p = some_parts (grants wish slot) (repaired_worth f.ships wish slot) (value_at f ship slot) (subst (λ o. IsSome o) (value_is f plan ship slot wish same e lt) h) in
+pub value_there : (g : Problem) (wishes : List Wish) (ship slot : ℕ) (wish : Wish) → length wishes ≡ g.ships → slice_get wishes ship ≡ Some wish → slot < g.slots → IsSome (value_at (repaired_by g wishes) ship slot) → Grants wish slot × IsSome (value_at g ship slot)
+value_there g wishes ship slot wish same e lt h =
+    let p = some_parts (grants wish slot) (repaired_worth g.ships wish slot) (value_at g ship slot) (subst (λ o. IsSome o) (value_is g wishes ship slot wish same e lt) h) in
     (grants_of wish slot p.0, p.1)
 
-pub there_value : (f : Problem) (plan : PlanParts) (ship slot : ℕ) (wish : Wish) → length plan.wishes ≡ f.ships → slice_get plan.wishes ship ≡ Some wish → slot < f.slots → Grants wish slot → IsSome (value_at f ship slot) → IsSome (value_at (repaired f plan) ship slot)
-there_value f plan ship slot wish same e lt g h =
-    subst (λ o. IsSome o) (sym (granted_value f plan ship slot wish same e lt g)) (some_map (repaired_worth f.ships wish slot) (value_at f ship slot) h)
+pub there_value : (g : Problem) (wishes : List Wish) (ship slot : ℕ) (wish : Wish) → length wishes ≡ g.ships → slice_get wishes ship ≡ Some wish → slot < g.slots → Grants wish slot → IsSome (value_at g ship slot) → IsSome (value_at (repaired_by g wishes) ship slot)
+there_value g wishes ship slot wish same e lt granted h =
+    subst (λ o. IsSome o) (sym (granted_value g wishes ship slot wish same e lt granted)) (some_map (repaired_worth g.ships wish slot) (value_at g ship slot) h)
 
 -- ---- limits of values
 
 -- what holds of each value, and of 0, holds of the value in a slot, or 0
-at_value : (P : ℕ → Type 0) (values : List (Option ℕ)) (i : ℕ) → P 0 → All (λ v. P (unwrap_or v 0)) values → P (unwrap_or (option_and_then (λ (v : Option ℕ). v) (slice_get values i)) 0)
+pub at_value : (P : ℕ → Type 0) (values : List (Option ℕ)) (i : ℕ) → P 0 → All (λ v. P (unwrap_or v 0)) values → P (unwrap_or (option_and_then (λ (v : Option ℕ). v) (slice_get values i)) 0)
 at_value P values i none each = by_case (slice_get values i) refl
   where
     by_case : (o : Option (Option ℕ)) → slice_get values i ≡ o → P (unwrap_or (option_and_then (λ (v : Option ℕ). v) o) 0)
     by_case None e = none
     by_case (Some v) e = subst (λ w. P (unwrap_or w 0)) (get_or_from_slice_get values i v v e) (All-get_or (λ w. P (unwrap_or w 0)) values i v (get_within values i v e) each)
 
-pub value_repairable : (f : Problem) (plan : PlanParts) (ship slot : ℕ) → f.ships ≤ 40 → PlanFits f plan → IsRepairable f.ships (unwrap_or (value_at f ship slot) 0)
-value_repairable f plan ship slot few fits = at_value (IsRepairable f.ships) f.values (ship * f.slots + slot) (omega (arith, few)) fits.each_value
+pub value_repairable : (g : Problem) (ship slot : ℕ) → g.ships ≤ 40 → All (λ value. IsRepairable g.ships (unwrap_or value 0)) g.values → IsRepairable g.ships (unwrap_or (value_at g ship slot) 0)
+value_repairable g ship slot few each = at_value (IsRepairable g.ships) g.values (ship * g.slots + slot) (omega (arith, few)) each
 
 -- a granted slot's worth and one that isn't granted
 worth_small : (b : Bool) (times one : ℕ) (v : Option ℕ) → one ≤ 1 → unwrap_or v 0 * times + 1 ≤ 1_000_000_000_000 → unwrap_or (cond b (option_map (λ x. x * times + one) v) None) 0 ≤ 1_000_000_000_000
@@ -96,9 +100,9 @@ none_else P (Some w) g z each = each w
 
 -- ---- a value as it is computed
 
-pub row_value : (f : Problem) (plan : PlanParts) (ship slot : ℕ) (d : Wish) (v : Option ℕ) (ships : ℕ) → length plan.wishes ≡ f.ships → ship < f.ships → ships ≡ f.ships → v ≡ value_at f ship slot → repaired_value ships (get_or plan.wishes ship d) slot v ≡ value_by f plan ship slot
-row_value f plan ship slot d v ships same lt s e =
-    let there : slice_get plan.wishes ship ≡ Some (get_or plan.wishes ship d) = slice_get-get_or plan.wishes ship d (omega (arith, lt, same)) in
-    ap (λ n. repaired_value n (get_or plan.wishes ship d) slot v) s
-    ∙ (ap (λ o. repaired_value f.ships (get_or plan.wishes ship d) slot o) e
-    ∙ sym (ap (option_and_then (λ w. repaired_value f.ships w slot (value_at f ship slot))) there))
+pub row_value : (g : Problem) (wishes : List Wish) (ship slot : ℕ) (d : Wish) (v : Option ℕ) (ships : ℕ) → length wishes ≡ g.ships → ship < g.ships → ships ≡ g.ships → v ≡ value_at g ship slot → repaired_value ships (get_or wishes ship d) slot v ≡ value_by g wishes ship slot
+row_value g wishes ship slot d v ships same lt s e =
+    let there : slice_get wishes ship ≡ Some (get_or wishes ship d) = slice_get-get_or wishes ship d (omega (arith, lt, same)) in
+    ap (λ n. repaired_value n (get_or wishes ship d) slot v) s
+    ∙ (ap (λ o. repaired_value g.ships (get_or wishes ship d) slot o) e
+    ∙ sym (ap (option_and_then (λ w. repaired_value g.ships w slot (value_at g ship slot))) there))

@@ -1,10 +1,41 @@
 //! The laws of a plan's repair, each a function without a body whose clause is the law.
 
-ghost use Rattle.hw_repair.specs.Laws.{RepairedValue, RepairedFits, RepairedPermits, RepairedCargo, RepairedMeets, BestRepair, NoneRepair, WrittenReads};
+ghost use Rattle.hw_repair.specs.Laws.{LeftFits, LeftPermits, LeftCargo, Morning, RestIsOpen, StaysMet, RepairedValue, RepairedFits, RepairedPermits, RepairedCargo, RepairedMeets, BestRepair, NoneRepair, WrittenReads};
 ghost use Rattle.hw_repair.specs.Rows.{RepairRows, PlanRows, WrittenRows};
-ghost use Rattle.hw_repair.specs.TimedRows.{TimedTextRows, TimedWrittenRows};
+ghost use Rattle.hw_repair.specs.TimedRows.{LeftRows, TimedRows, TimedTextRows, TimedWrittenRows};
 
-/// The value of a ship in a slot, by its wish and the problem's value there.
+/// What a plan leaves of a problem is within the limits of a flat problem, and has a text.
+pub fn left_fits()
+    ensures { LeftFits }
+{}
+
+/// A timetable meets a plan exactly where what the plan leaves permits it and the wishes grant it.
+pub fn left_permits()
+    ensures { LeftPermits }
+{}
+
+/// What a timetable carries by a plan is its cargo by what the plan leaves.
+pub fn left_cargo()
+    ensures { LeftCargo }
+{}
+
+/// From the first slot on, with all tugs and each ship planned, a plan is that of the whole day.
+pub fn morning()
+    ensures { Morning }
+{}
+
+/// Where each ship that isn't gone may stay and isn't fixed, the timetable in which these stay meets
+/// the plan.
+pub fn rest_is_open()
+    ensures { RestIsOpen }
+{}
+
+/// Later in a day that goes as a timetable says, the timetable still meets the plan.
+pub fn stays_met()
+    ensures { StaysMet }
+{}
+
+/// The value of a ship in a slot, by its wish and its value in what the plan leaves.
 pub fn repaired_value()
     ensures { RepairedValue }
 {}
@@ -48,6 +79,16 @@ pub fn written_reads()
 /// Worked rows: values of repairs.
 pub fn repair_rows()
     ensures { RepairRows }
+{}
+
+/// Worked rows: what plans that know the time leave of a problem.
+pub fn left_rows()
+    ensures { LeftRows }
+{}
+
+/// Worked rows: what is carried and moved by plans that know the time.
+pub fn timed_rows()
+    ensures { TimedRows }
 {}
 
 /// Worked rows: what texts of plans say.

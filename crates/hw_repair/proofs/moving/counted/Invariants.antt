@@ -1,5 +1,4 @@
-use Rattle.std.proofs.Common.{◌≡◌, ◌+◌, ◌≤◌, count_by, drop}
-use Rattle.std.specs.Prelude.{is_some}
+use Rattle.std.proofs.Common.{◌≡◌, ◌+◌, ◌≤◌, count_by, drop, is_some}
 use Rattle.hw_repair.specs.Wishes.{wished}
 use Rattle.hw_repair.proofs.moving.counted.Given as goal
 
