@@ -24,7 +24,7 @@ use Rattle.hw_report.specs.declared.report.Head.{Head}
 use Rattle.hw_command.specs.Certificates.{line_outcome, lines_outcome, report_of, stream_outcome}
 use Rattle.hw_command.specs.Keeping.{complete_lines}
 use Rattle.hw_command.specs.declared.outcome.CertOutcome.TheVariants.{Shows}
-use Rattle.hw_subject.specs.Meanings.{repaired_problem, repair_ships}
+use Rattle.hw_subject.specs.Meanings.{repaired_problem}
 use Rattle.hw_subject.specs.Subjects.{topic_subject}
 use Rattle.hw_subject.proofs.Modelled.{subjects_modelled_law}
 use Rattle.hw_command_search.specs.Certified.{IsCertificate, head_verdict, searched_head}
@@ -65,8 +65,8 @@ valid_shows f (line ∷ more) before number flat good fit valid =
     ∙ ap (λ (all : List Line). Shows (verdict f all)) (append_assoc before (line ∷ []) more)
 
 -- its verdict, by the head
-shown_verdict : {f : Problem} {plan : Option PlanParts} {budget : ℕ} {head : Head} {table : Option (List ℕ)} {bound : Option ℕ} {cert : List ℕ} (how : Search) → (c : IsCertificate (searcher_of how) f plan budget head table bound cert) → verdict (repaired_problem f plan) c.lines ≡ verdict_with (repaired_problem f plan) (searched_head plan f.ships table head) table
-shown_verdict {f = f} {plan = plan} {head = head} {table = table} how c = c.shows.verdict ∙ ap (λ (t : Option (List ℕ)). head_verdict (searched_head plan f.ships table head) (option_and_then (cargo (repaired_problem f plan)) t)) c.shows.last
+shown_verdict : {f : Problem} {plan : Option PlanParts} {budget : ℕ} {head : Head} {table : Option (List ℕ)} {bound : Option ℕ} {cert : List ℕ} (how : Search) → (c : IsCertificate (searcher_of how) f plan budget head table bound cert) → verdict (repaired_problem f plan) c.lines ≡ verdict_with (repaired_problem f plan) (searched_head plan table head) table
+shown_verdict {f = f} {plan = plan} {head = head} {table = table} how c = c.shows.verdict ∙ ap (λ (t : Option (List ℕ)). head_verdict (searched_head plan table head) (option_and_then (cargo (repaired_problem f plan)) t)) c.shows.last
 
 -- the report of a check of it
 pub own_shown : {f : Problem} {plan : Option PlanParts} {budget : ℕ} {head : Head} {table : Option (List ℕ)} {bound : Option ℕ} {cert : List ℕ} (how : Search) (names : Naming) → IsFlat (repaired_problem f plan) → (c : IsCertificate (searcher_of how) f plan budget head table bound cert) → cert_stream_to (searcher_of how).version (shape_of (repaired_problem f plan)) cert ≡ complete_lines c.lines
@@ -76,29 +76,35 @@ own_shown {f = f} {plan = plan} how names limits c same =
     record {
       last = bound_of c.lines;
       stands = c.shows.last_bound;
-      report = ap (λ (read : CertLines). report_of names (bound_of read.lines) (repair_ships f plan) (stream_outcome g read)) same
-          ∙ ap (report_of names (bound_of c.lines) (repair_ships f plan)) (valid_shows g c.lines [] 2 limits tt c.written.fit c.written.valid)
-          ∙ ap (λ (w : Verdict). checked w (bound_of c.lines) (repair_ships f plan) names) (shown_verdict how c);
+      report = ap (λ (read : CertLines). report_of names (bound_of read.lines) plan (stream_outcome g read)) same
+          ∙ ap (report_of names (bound_of c.lines) plan) (valid_shows g c.lines [] 2 limits tt c.written.fit c.written.valid)
+          ∙ ap (λ (w : Verdict). checked w (bound_of c.lines) plan names) (shown_verdict how c);
     }
 
 -- ---- over the same inputs
 
--- by the problem and the names as they are reported
-pub as_reported : (how : Search) (f g : Problem) (plan : Option PlanParts) (head : Head) (names given : Naming) (table : Option (List ℕ)) (bound : Option ℕ) (cert : List ℕ) (r : Report) → f ≡ g → names ≡ given → r ≡ cert_report (searcher_of how).version given g plan cert → PassesLimit (searcher_of how).version (repaired_problem g plan) cert ⊎ IsShownAs g plan head given table bound (cert_report (searcher_of how).version given g plan cert) → PassesLimit (searcher_of how).version (repaired_problem f plan) cert ⊎ IsShownAs f plan head names table bound r
-as_reported how f g plan head names given table bound cert r same named is h =
-    subst (λ (k : Problem). PassesLimit (searcher_of how).version (repaired_problem k plan) cert ⊎ IsShownAs k plan head names table bound r) (sym same)
-    (subst (λ (n : Naming). PassesLimit (searcher_of how).version (repaired_problem g plan) cert ⊎ IsShownAs g plan head n table bound r) (sym named)
-    (subst (λ (t : Report). PassesLimit (searcher_of how).version (repaired_problem g plan) cert ⊎ IsShownAs g plan head given table bound t) (sym is) h))
+-- a check shows a printed head of a problem or of its repair, unless the certificate passes a limit
+abbrev pub LongOrShown : (how : Search) (f : Problem) (plan : Option PlanParts) (head : Head) (names : Naming) (table : Option (List ℕ)) (bound : Option ℕ) (cert : List ℕ) (r : Report) → Type 0
+LongOrShown how f plan head names table bound cert r = PassesLimit (searcher_of how).version (repaired_problem f plan) cert ⊎ IsShownAs f plan head names table bound r
+
+-- by the problem, the names and the plan as they are reported
+pub as_reported : (how : Search) (f g : Problem) (plan own : Option PlanParts) (head : Head) (names given : Naming) (table : Option (List ℕ)) (bound : Option ℕ) (cert : List ℕ) (r : Report)
+    → f ≡ g → names ≡ given → plan ≡ own → r ≡ cert_report (searcher_of how).version given g own cert → LongOrShown how g own head given table bound cert (cert_report (searcher_of how).version given g own cert) → LongOrShown how f plan head names table bound cert r
+as_reported how f g plan own head names given table bound cert r same named planned is h =
+    subst (λ (k : Problem). LongOrShown how k plan head names table bound cert r) (sym same)
+    (subst (λ (n : Naming). LongOrShown how g plan head n table bound cert r) (sym named)
+    (subst (λ (o : Option PlanParts). LongOrShown how g o head given table bound cert r) (sym planned)
+    (subst (λ (t : Report). LongOrShown how g own head given table bound cert t) (sym is) h)))
 
 pub either : {A B C : Type 0} → A ⊎ B → (B → C) → A ⊎ C
 either (inl a) k = inl a
 either (inr b) k = inr (k b)
 
 pub own_report : OwnReport
-own_report how bytes cert head f names table moved bound r h k =
+own_report how bytes cert head f names table plan bound r h k =
     let s = topic_subject h.topic in
     let v = h.says.value in
     let limits = (subjects_modelled_law h.topic h.old.held v h.says.reads).limits in
     let certificate = subst (λ (sent : Option (List ℕ)). IfSome sent (IsCertificate (searcher_of how) (s.problem v) (s.plan v) h.budget head table bound)) h.wrote h.says.certificate in
-    as_reported how f (s.problem v) (s.plan v) head names (s.naming v) table bound cert r h.says.problem h.says.naming (checked_at h.topic h.old.held v h.told h.says.reads k)
+    as_reported how f (s.problem v) plan (s.plan v) head names (s.naming v) table bound cert r h.says.problem h.says.naming h.says.planned (checked_at h.topic h.old.held v h.told h.says.reads k)
     (either (own_lines how limits certificate) (own_shown how (s.naming v) limits certificate))

@@ -64,7 +64,7 @@ record Wrote (how : Search) (topic : Topic) (held : List ℕ → Option (List �
   ended : s ≡ status_of_head head
 
 by_report : (how : Search) (topic : Topic) (budget : ℕ) (proof cert : List ℕ) (old mid : DeskState) (s : Status) (r : Report) → s ≡ status_of r → is_answer s ≡ true → (mid.trays Proof).sent ≡ Some cert → SearchSays (topic_subject topic) (searcher_of how) budget proof old mid (Some r) → Wrote how topic old.held cert s
-by_report how topic budget proof cert old mid s (solved head f names table moved bound) ended answer sent says = record {
+by_report how topic budget proof cert old mid s (solved head f names table plan bound) ended answer sent says = record {
   head = head;
   table = table;
   bound = bound;
@@ -89,18 +89,18 @@ check_carries (Prove seed) topic name old new t m = m
 check_carries (Crew order) topic name old new t m = m
 
 -- the verdict that is shown has the status of the head
-same_status : (plan : Option PlanParts) (ships : ℕ) (table : Option (List ℕ)) (head : Head) (best : Option ℕ) → is_answer (status_of_head head) ≡ true → status_of_verdict (head_verdict (searched_head plan ships table head) best) ≡ status_of_head head
-same_status None ships table (heads.Optimal c) best e = refl
-same_status None ships table heads.Infeasible best e = refl
-same_status None ships table (heads.Unfinished spent) best e = refl
-same_status None ships table heads.Memory best e = absurd (cc)
-same_status (Some plan) ships table (heads.Optimal c) best e = refl
-same_status (Some plan) ships table heads.Infeasible best e = refl
-same_status (Some plan) ships table (heads.Unfinished spent) best e = refl
-same_status (Some plan) ships table heads.Memory best e = absurd (cc)
+same_status : (plan : Option PlanParts) (table : Option (List ℕ)) (head : Head) (best : Option ℕ) → is_answer (status_of_head head) ≡ true → status_of_verdict (head_verdict (searched_head plan table head) best) ≡ status_of_head head
+same_status None table (heads.Optimal c) best e = refl
+same_status None table heads.Infeasible best e = refl
+same_status None table (heads.Unfinished spent) best e = refl
+same_status None table heads.Memory best e = absurd (cc)
+same_status (Some plan) table (heads.Optimal c) best e = refl
+same_status (Some plan) table heads.Infeasible best e = refl
+same_status (Some plan) table (heads.Unfinished spent) best e = refl
+same_status (Some plan) table heads.Memory best e = absurd (cc)
 
 shown_status : {f : Problem} {plan : Option PlanParts} {head : Head} {names : Naming} {table : Option (List ℕ)} {bound : Option ℕ} {r : Report} → is_answer (status_of_head head) ≡ true → IsShownAs f plan head names table bound r → status_of r ≡ status_of_head head
-shown_status {f = f} {plan = plan} {head = head} {table = table} e h = ap status_of h.report ∙ same_status plan f.ships table head _ e
+shown_status {f = f} {plan = plan} {head = head} {table = table} e h = ap status_of h.report ∙ same_status plan table head _ e
 
 check_ends : {how : Search} {bytes : Topic} {cert : List ℕ} {s t : Status} (topic : Topic) (held : List ℕ → Option (List ℕ)) (w : Wrote how topic held cert s) → IsTold held topic bytes → is_answer s ≡ true → cert_stream_to (searcher_of how).version (shape_of (judged (topic_subject topic) w.value)) cert ≡ complete_lines w.certificate.lines → CheckAfter how bytes cert t → EndsAlike s t
 check_ends {how = how} {bytes = bytes} {cert = cert} {s = s} {t = t} topic held w told answer same k =

@@ -9,7 +9,7 @@ use Rattle.hw_cert.specs.Stream.{CertLines, cert_stream, cert_stream_to}
 use Rattle.hw_repair.specs.Wishes.{PlanParts}
 use Rattle.hw_report.specs.Reports.{Report, Naming}
 use Rattle.hw_command.specs.Certificates.{report_of, stream_outcome}
-use Rattle.hw_subject.specs.Meanings.{judged, repaired_problem, repair_ships}
+use Rattle.hw_subject.specs.Meanings.{judged, repaired_problem}
 use Rattle.hw_subject.specs.Subjects.{Subject, Topic, port_of, topic_subject}
 use Rattle.hw_subject.specs.Decided.{DecidedBy, IsDecided, IsReported as IsReportedAs, NamesThird}
 use Rattle.hw_subject.specs.Texts.{cert_report}
@@ -74,7 +74,7 @@ one_flat_text instance tides r t h g = one_listing_law (port_of instance tides) 
 -- ---- bounds
 
 pub printed_bounds : PrintedBounds
-printed_bounds topic cert held shows bound ships names says = record {
+printed_bounds topic cert held shows bound plan names says = record {
   value = says.value;
   reads = says.reads;
   naming = says.naming;
@@ -86,7 +86,7 @@ printed_bounds topic cert held shows bound ships names says = record {
 
 -- where the same lines are read, the report is the same
 same_report : (names : Naming) (f : Problem) (plan : Option PlanParts) (cert : List ℕ) → cert_stream_to Three (shape_of (repaired_problem f plan)) cert ≡ cert_stream (shape_of (repaired_problem f plan)) cert → cert_report Three names f plan cert ≡ cert_report Two names f plan cert
-same_report names f plan cert same = ap (λ (read : CertLines). report_of names (bound_of read.lines) (repair_ships f plan) (stream_outcome (repaired_problem f plan) read)) same
+same_report names f plan cert same = ap (λ (read : CertLines). report_of names (bound_of read.lines) plan (stream_outcome (repaired_problem f plan) read)) same
 
 third_or_same : (s : Subject) (held : List ℕ → Option (List ℕ)) (cert : List ℕ) (c r : Report) → IsDecided s held → IsReported s held (by_cert Two cert) c → IsReported s held (by_cert Three cert) r → NamesThird cert ⊎ (r ≡ c)
 third_or_same s held cert c r d (inl a) (inl b) = inr (d.one_refusal r c b a)

@@ -4,8 +4,10 @@ use Rattle.hw_desk.specs.State.{DeskState}
 use Rattle.hw_cert_lines.specs.declared.check.Verdict.{Verdict}
 use Rattle.hw_cert.specs.declared.version.Version.{Version}
 use Rattle.hw_cert.specs.declared.version.Version.TheVariants.{Two, Three}
+use Rattle.hw_repair.specs.Wishes.{PlanParts}
+use Rattle.hw_report.specs.Plans.{own_worth}
 use Rattle.hw_report.specs.Reports.{Report, Naming, checked}
-use Rattle.hw_subject.specs.Meanings.{IsBoundOf, own_worth}
+use Rattle.hw_subject.specs.Meanings.{IsBoundOf}
 use Rattle.hw_subject.specs.Subjects.{Subject, Topic, topic_subject}
 use Rattle.hw_subject.specs.Checks.{Checks}
 use Rattle.hw_subject.specs.Decided.{AllTold, NamesThird}
@@ -90,13 +92,13 @@ pub record ReportedBoundHolds (s : Subject) (held : List ℕ → Option (List �
   pub value : s.Value
   pub reads : s.Reads held value
   pub naming : names ≡ s.naming value
-  pub bounds : IsBoundOf s value (own_worth (s.plan value) (s.problem value).ships bound)
+  pub bounds : IsBoundOf s value (own_worth (s.plan value) bound)
   -- it is the only one, where all inputs are told
   pub only : AllTold held s.inputs → (other : s.Value) → s.Reads held other → value ≡ other
 
 -- the bound of a report, in the names in which it is printed
 abbrev pub PrintedBounds : Type 0
-PrintedBounds = (topic : Topic) (cert : List ℕ) (held : List ℕ → Option (List ℕ)) (shows : Verdict) (bound : ℕ) (ships : Option ℕ) (names : Naming) → Checks (topic_subject topic) Three cert held (checked shows (Some bound) ships names) → ReportedBoundHolds (topic_subject topic) held names bound
+PrintedBounds = (topic : Topic) (cert : List ℕ) (held : List ℕ → Option (List ℕ)) (shows : Verdict) (bound : ℕ) (plan : Option PlanParts) (names : Naming) → Checks (topic_subject topic) Three cert held (checked shows (Some bound) plan names) → ReportedBoundHolds (topic_subject topic) held names bound
 
 -- `verify` reports what `check` does, unless the certificate names the third version
 abbrev pub VerifiedAsChecked : Type 0

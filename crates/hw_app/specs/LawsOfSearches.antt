@@ -12,7 +12,7 @@ use Rattle.hw_report.specs.declared.report.Head.{Head}
 use Rattle.hw_repair.specs.Wishes.{PlanParts}
 use Rattle.hw_command.specs.declared.status.Status.{Status}
 use Rattle.hw_command.specs.declared.status.Status.TheVariants as status
-use Rattle.hw_subject.specs.Meanings.{judged, repaired_problem, repair_ships}
+use Rattle.hw_subject.specs.Meanings.{judged, repaired_problem}
 use Rattle.hw_subject.specs.Subjects.{Topic, topic_subject}
 use Rattle.hw_command_search.specs.Certified.{head_verdict, own_bound, searched_head}
 use Rattle.hw_command_search.specs.Searchers.{searcher_of}
@@ -32,14 +32,14 @@ PassesLimit most f bytes = (cert_stream_to most (shape_of f) bytes).stop ≡ ove
 -- ---- what is reported
 
 -- a search over some desk that tells inputs of these bytes reports this, and sent a certificate of these bytes to Proof
-pub record SearchOf (how : Search) (bytes : Topic) (cert : List ℕ) (head : Head) (f : Problem) (names : Naming) (table : Option (List ℕ)) (moved bound : Option ℕ) : Type 0 where
+pub record SearchOf (how : Search) (bytes : Topic) (cert : List ℕ) (head : Head) (f : Problem) (names : Naming) (table : Option (List ℕ)) (plan : Option PlanParts) (bound : Option ℕ) : Type 0 where
   pub topic : Topic
   pub budget : ℕ
   pub proof : List ℕ
   pub old : DeskState
   pub new : DeskState
   pub told : IsTold old.held topic bytes
-  pub says : SearchSays (topic_subject topic) (searcher_of how) budget proof old new (Some (solved head f names table moved bound))
+  pub says : SearchSays (topic_subject topic) (searcher_of how) budget proof old new (Some (solved head f names table plan bound))
   pub wrote : (new.trays Proof).sent ≡ Some cert
 
 -- the verdict that a head tells with a timetable
@@ -49,13 +49,14 @@ verdict_with f head table = head_verdict head (option_and_then (cargo f) table)
 -- a check shows a printed head with a timetable or none, and a printed bound or none, of a problem or of its repair by a plan: the verdict of the head for which the printed one stands, and a bound that stands for the printed one
 pub record IsShownAs (f : Problem) (plan : Option PlanParts) (head : Head) (names : Naming) (table : Option (List ℕ)) (bound : Option ℕ) (r : Report) : Type 0 where
   pub last : Option ℕ
-  pub stands : own_bound plan f.ships last ≡ bound
-  pub report : r ≡ checked (verdict_with (repaired_problem f plan) (searched_head plan f.ships table head) table) last (repair_ships f plan) names
+  pub stands : own_bound plan last ≡ bound
+  pub report : r ≡ checked (verdict_with (repaired_problem f plan) (searched_head plan table head) table) last plan names
 
 -- the certificate that a search wrote, checked up to its version over the same inputs, shows what the search reported, unless it passes a limit
 abbrev pub OwnReport : Type 0
-OwnReport = (how : Search) (bytes : Topic) (cert : List ℕ) (head : Head) (f : Problem) (names : Naming) (table : Option (List ℕ)) (moved bound : Option ℕ) (r : Report) → (h : SearchOf how bytes cert head f names table moved bound) → CheckOf (searcher_of how).version bytes cert r
-    → PassesLimit (searcher_of how).version (repaired_problem f ((topic_subject h.topic).plan h.says.value)) cert ⊎ IsShownAs f ((topic_subject h.topic).plan h.says.value) head names table bound r
+OwnReport = (how : Search) (bytes : Topic) (cert : List ℕ) (head : Head) (f : Problem) (names : Naming) (table : Option (List ℕ)) (plan : Option PlanParts) (bound : Option ℕ) (r : Report)
+    → SearchOf how bytes cert head f names table plan bound → CheckOf (searcher_of how).version bytes cert r
+    → PassesLimit (searcher_of how).version (repaired_problem f plan) cert ⊎ IsShownAs f plan head names table bound r
 
 -- ---- how runs end
 

@@ -6,6 +6,7 @@ pub mod Laws
 pub mod Text
 pub mod Calls
 pub mod Rows
+pub mod PortPlans
 pub mod Carried
 pub mod CarriedLaws
 pub mod CarriedRows

@@ -50,18 +50,18 @@ no_write_part false e = cc
 -- a report of a read fault alone has its status, and then its cause
 read_cause : (x y : DeskState) (r : Report) → ReadFault ≡ status_of r → ReadCauseOf x y r → Rose x.read_faults y.read_faults
 read_cause x y (read_fault feed) e h = h
-read_cause x y (solved head f names table moved bound) e h = absurd (no_fault_head head e)
+read_cause x y (solved head f names table plan bound) e h = absurd (no_fault_head head e)
 read_cause x y (demo head best verdict lemmas) e h = absurd (no_fault_head head e)
-read_cause x y (checked v bound ships names) e h = absurd (no_fault_verdict v e)
+read_cause x y (checked v bound plan names) e h = absurd (no_fault_verdict v e)
 read_cause x y (picture v text) e h = absurd (no_fault_verdict v e)
 read_cause x y (part_told number is_closed) e h = absurd (no_fault_part is_closed e)
 read_cause x y _ e h = absurd (cc)
 
 -- no report has the status of a write fault
 no_write : (r : Report) → WriteFault ≡ status_of r → ⊥
-no_write (solved head f names table moved bound) e = no_write_head head e
+no_write (solved head f names table plan bound) e = no_write_head head e
 no_write (demo head best verdict lemmas) e = no_write_head head e
-no_write (checked v bound ships names) e = no_write_verdict v e
+no_write (checked v bound plan names) e = no_write_verdict v e
 no_write (picture v text) e = no_write_verdict v e
 no_write (part_told number is_closed) e = no_write_part is_closed e
 no_write _ e = cc

@@ -9,6 +9,7 @@ use Rattle.hw_cert_lines.specs.declared.check.Refusal.{Refusal}
 use Rattle.hw_cert_lines.specs.declared.line.Line.{Line}
 use Rattle.hw_cert_lines.specs.Refusals.{refusal}
 use Rattle.hw_cert_lines.specs.Valid.{verdict}
+use Rattle.hw_repair.specs.Wishes.{PlanParts}
 use Rattle.hw_report.specs.Reports.{Report, Naming, checked, refused, read_fault, too_long, no_memory}
 use Rattle.hw_report.specs.declared.report.RefusedWord.TheVariants.{Form, Check}
 use Rattle.hw_command.specs.declared.outcome.CertOutcome.{CertOutcome}
@@ -44,14 +45,14 @@ cert_outcome_to most f bytes = stream_outcome f (cert_stream_to most (shape_of f
 abbrev pub cert_outcome : Problem → List ℕ → CertOutcome
 cert_outcome f bytes = cert_outcome_to Two f bytes
 
--- the report of an outcome with this bound; of a plan's repair, for this many ships
-abbrev pub report_of : Naming → Option ℕ → Option ℕ → CertOutcome → Report
-report_of names bound ships (Shows v) = checked v bound ships names
-report_of names bound ships (Wrong number word hint) = refused number word hint
-report_of names bound ships TooLong = too_long Certificate
+-- the report of an outcome with this bound, of a problem or of the repair of its plan
+abbrev pub report_of : Naming → Option ℕ → Option PlanParts → CertOutcome → Report
+report_of names bound plan (Shows v) = checked v bound plan names
+report_of names bound plan (Wrong number word hint) = refused number word hint
+report_of names bound plan TooLong = too_long Certificate
 
 -- the report of what a check of a certificate gives
-abbrev pub report_of_check : Naming → Option ℕ → Option ℕ → Result CertOutcome CertStop → Report
-report_of_check names bound ships (Ok outcome) = report_of names bound ships outcome
-report_of_check names bound ships (Err stops.Fault) = read_fault Certificate
-report_of_check names bound ships (Err stops.NoMemory) = no_memory
+abbrev pub report_of_check : Naming → Option ℕ → Option PlanParts → Result CertOutcome CertStop → Report
+report_of_check names bound plan (Ok outcome) = report_of names bound plan outcome
+report_of_check names bound plan (Err stops.Fault) = read_fault Certificate
+report_of_check names bound plan (Err stops.NoMemory) = no_memory

@@ -37,8 +37,8 @@ status_of_part false = status.Unfinished
 
 -- the status of a run whose report was sent
 abbrev pub status_of : Report → Status
-status_of (solved head f names table moved bound) = status_of_head head
-status_of (checked verdict bound ships names) = status_of_verdict verdict
+status_of (solved head f names table plan bound) = status_of_head head
+status_of (checked verdict bound plan names) = status_of_verdict verdict
 status_of (demo head best verdict lemmas) = status_of_head head
 status_of (bad_words place) = status.Words
 status_of (bad_flat number word) = status.BadInput

@@ -4,7 +4,7 @@ ghost use Rattle.std.specs.Prelude.{◌≡◌, [], ℕ, List, None, false};
 ghost use Rattle.hw_check.specs.Follows.{CheckerFollows};
 ghost use Rattle.hw_desk.specs.Calls.{Moves};
 ghost use Rattle.hw_report.specs.Printing.{CanPrint};
-ghost use Rattle.hw_report.specs.Seen.{names_seen, report_seen};
+ghost use Rattle.hw_report.specs.Seen.{names_seen, plan_seen, report_seen};
 ghost use Rattle.hw_command.specs.Certificates.{report_of_check};
 ghost use Rattle.hw_command.specs.Checking.{GoesFurther, IsReady, LeavesChecker, OpensCert, StaysWithin, CheckerSteps, of_line_stop, of_check_stop};
 ghost use Rattle.hw_command.specs.Keeping.{ReadsOn};
@@ -16,6 +16,7 @@ use hw_cert::{Line, LineReader, LineStop, Next, Version};
 use hw_check::{CheckStop, Checker};
 use hw_desk::{Desk, Feed};
 use hw_flat::Flat;
+use hw_repair::Plan;
 use hw_report::{Names, RefusedWord, Report};
 use std::alloc::Global;
 
@@ -213,22 +214,22 @@ fn no_line(stop: LineStop) -> Result<CertOutcome, CertStop>
     }
 }
 
-/// The report of a certificate's check with this bound, in these names; of a plan's repair, for this
-/// many ships.
+/// The report of a certificate's check with this bound, in these names, of a problem or of the repair
+/// of its plan.
 pub fn check_report<'a>(
     checked: Result<CertOutcome, CertStop>,
     bound: Option<u64>,
-    ships: Option<u32>,
+    plan: Option<&'a Plan>,
     names: Names<'a>,
 ) -> Report<'a>
-    ensures value { report_seen result ≡ report_of_check (names_seen names.entry) bound ships checked }
+    ensures value { report_seen result ≡ report_of_check (names_seen names.entry) bound (plan_seen plan.entry) checked }
     ensures printed { CanPrint (report_seen result) }
 {
     match checked {
         Ok(CertOutcome::Shows(verdict)) => Report::Checked {
             verdict,
             bound,
-            ships,
+            plan,
             names,
         },
         Ok(CertOutcome::Wrong { number, word, hint }) => Report::Refused { number, word, hint },

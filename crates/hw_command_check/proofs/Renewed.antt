@@ -14,12 +14,11 @@ use Rattle.hw_command.specs.declared.outcome.CertStop.{CertStop}
 use Rattle.hw_command.specs.declared.status.Status.{Status}
 use Rattle.hw_command.specs.declared.status.Status.TheVariants.{WriteFault}
 use Rattle.hw_subject.specs.Checks.{Checks}
-use Rattle.hw_subject.specs.Meanings.{judged, repair_ships}
+use Rattle.hw_subject.specs.Meanings.{judged}
 use Rattle.hw_subject.specs.Reading.{ReadsSubject, StopsAtSubject, naming_of, plan_in, searched_in}
 use Rattle.hw_subject.specs.Subjects.{Subject, Topic, topic_subject}
 use Rattle.hw_subject.specs.declared.subject.Given.{Given}
 use Rattle.hw_subject.proofs.CertTasks as tasks
-use Rattle.hw_subject.proofs.Certified.{counted}
 use Rattle.hw_subject.proofs.Certless.{certless, refuses_on}
 use Rattle.hw_subject.proofs.Started.{starts}
 use Rattle.hw_cert.specs.declared.version.Version.TheVariants.{Three}
@@ -30,7 +29,7 @@ use Rattle.hw_command_check.specs.declared.renewing.ShownAgain.{ShownAgain}
 
 -- why there is no subject is said as after a check
 renews_on : (topic : Topic) (cert proof : List ℕ) (x y : DeskState) (r : Report) → (topic_subject topic).Refuses x.held r → Renews (topic_subject topic) cert proof x y r
-renews_on topic cert proof x y (checked w bound ships names) h = absurd ((certless topic).silent x.held (checked w bound ships names) h refl)
+renews_on topic cert proof x y (checked w bound plan names) h = absurd ((certless topic).silent x.held (checked w bound plan names) h refl)
 renews_on topic cert proof x y r h = refuses_on (topic_subject topic) Three cert x.held r (certless topic) h
 
 -- what comes of what was read is what comes of the judged problem
@@ -52,16 +51,16 @@ pub sent_carries : (topic : Topic) {cert proof : List ℕ} {x y end : DeskState}
 sent_carries topic {cert = cert} {proof = proof} {y = y} {end = end} {given = given} {e = e} z shown h rewrites ends =
     let s = topic_subject topic in
     let k = of_judged s cert proof y z (outcomes.Sent shown) h rewrites in
-    let ships = repair_ships given.flat (plan_in given.repair) in
+    let plan = plan_in given.repair in
     let from = starts topic h k.starts in
-    tasks.sent_carries topic (RenewSays s cert proof) (checked k.starts.shows k.starts.read.bound ships (naming_of given.named)) refl (λ same. same) h k.starts.reads k.sends
+    tasks.sent_carries topic (RenewSays s cert proof) (checked k.starts.shows k.starts.read.bound plan (naming_of given.named)) refl (λ same. same) h k.starts.reads k.sends
     (λ made. record {
-      checked = record { value = h.value; reads = h.reads; naming = h.naming; counted = counted {s = s} h; table = from.table; shown = from.shown };
+      checked = record { value = h.value; reads = h.reads; naming = h.naming; planned = h.plan; table = from.table; shown = from.shown };
       again = k.again;
       made = made;
       holds = k.sends.answer.1;
     })
-    (subst (λ (bound : Option ℕ). Ends (checked k.starts.shows bound ships (naming_of given.named) ∷ []) z end e) k.bound (subst (λ (v : Verdict). Ends (checked v shown.bound ships (naming_of given.named) ∷ []) z end e) k.verdict ends))
+    (subst (λ (bound : Option ℕ). Ends (checked k.starts.shows bound plan (naming_of given.named) ∷ []) z end e) k.bound (subst (λ (v : Verdict). Ends (checked v shown.bound plan (naming_of given.named) ∷ []) z end e) k.verdict ends))
 
 -- a make or a write of Proof failed
 pub broke_carries : (topic : Topic) {cert proof : List ℕ} {x y : DeskState} {given : Given} (z : DeskState) → ReadsSubject (topic_subject topic) x y given → RenewsTo (searched_in given.flat given.repair) cert proof y z outcomes.WriteFailed → Carries (renew_task (topic_subject topic) cert proof) x z WriteFault
@@ -74,7 +73,7 @@ broke_carries topic {cert = cert} {proof = proof} {y = y} z h rewrites =
 -- ---- its report is one of a check
 
 renewed_checks : (s : Subject) (cert proof : List ℕ) (old new : DeskState) (r : Report) → Renews s cert proof old new r → Checks s Three cert old.held r
-renewed_checks s cert proof old new (checked w bound ships names) h = h.checked
+renewed_checks s cert proof old new (checked w bound plan names) h = h.checked
 renewed_checks s cert proof old new r h = h
 
 pub renewed_as_checked_law : RenewedAsChecked

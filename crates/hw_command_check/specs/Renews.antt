@@ -5,6 +5,7 @@ use Rattle.hw_desk.specs.declared.desk.Tray.TheVariants as tray
 use Rattle.hw_cert_lines.specs.declared.check.Verdict.{Verdict}
 use Rattle.hw_cert_laws.specs.Renewing.{renewed}
 use Rattle.hw_cert.specs.declared.version.Version.TheVariants.{Three}
+use Rattle.hw_repair.specs.Wishes.{PlanParts}
 use Rattle.hw_report.specs.Reports.{Report, Naming, checked}
 use Rattle.hw_command.specs.Carries.{Task}
 use Rattle.hw_command.specs.Scope.{MakesProof}
@@ -17,8 +18,8 @@ use Rattle.hw_command_check.specs.Renewing.{StillShows, renewed_text}
 use Rattle.hw_subject.specs.Shown.{Shown}
 
 -- what a check says, and the certificate's lines, renewed, show the same. Proof was made, and holds their text, where it is told
-pub record Renewed (s : Subject) (cert proof : List ℕ) (old new : DeskState) (shows : Verdict) (bound ships : Option ℕ) (names : Naming) : Type 0 where
-  pub checked : Checked s Three cert old.held shows bound ships names
+pub record Renewed (s : Subject) (cert proof : List ℕ) (old new : DeskState) (shows : Verdict) (bound : Option ℕ) (plan : Option PlanParts) (names : Naming) : Type 0 where
+  pub checked : Checked s Three cert old.held shows bound plan names
   pub again : StillShows (judged s checked.value) shows bound (renewed checked.shown.lines)
   pub made : MakesProof proof old new
   pub holds : IfSome (new.trays tray.Proof).sent (λ bytes. bytes ≡ renewed_text checked.shown.lines)
@@ -36,7 +37,7 @@ pub record RenewBreaks (s : Subject) (cert : List ℕ) (old new : DeskState) : T
 
 -- what a report says of the inputs, of the certificate and of Proof, each as far as it is told: what it says after a check, where the certificate is not renewed
 abbrev pub Renews : Subject → List ℕ → List ℕ → DeskState → DeskState → Report → Type 0
-Renews s cert proof old new (checked shows bound ships names) = Renewed s cert proof old new shows bound ships names
+Renews s cert proof old new (checked shows bound plan names) = Renewed s cert proof old new shows bound plan names
 Renews s cert proof old new r = Checks s Three cert old.held r
 
 -- none is a write fault on Proof

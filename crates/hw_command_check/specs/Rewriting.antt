@@ -10,7 +10,6 @@ use Rattle.hw_command.specs.Sending.{SendsTo}
 use Rattle.hw_command.specs.Starting.{StartsOn, StopsOnStart}
 use Rattle.hw_command.specs.WorkEnds.{WorkEnds}
 use Rattle.hw_command.specs.declared.ending.Ending.{Ending}
-use Rattle.hw_subject.specs.Meanings.{repair_ships}
 use Rattle.hw_subject.specs.Reading.{naming_of, plan_in}
 use Rattle.hw_subject.specs.declared.subject.Given.{Given}
 use Rattle.hw_command_check.specs.Renewing.{StillShows, renewed_text}
@@ -31,4 +30,4 @@ RenewsTo f cert proof old new end = WorkEnds (StopsOnStart KeepsLines f cert) (S
 
 -- the report of what renewed lines show
 abbrev pub report_of_renewal : Given → ShownAgain → Report
-report_of_renewal given shown = checked shown.verdict shown.bound (repair_ships given.flat (plan_in given.repair)) (naming_of given.named)
+report_of_renewal given shown = checked shown.verdict shown.bound (plan_in given.repair) (naming_of given.named)

@@ -5,7 +5,6 @@ ghost use Rattle.hw_desk.specs.State.{IsNewDesk};
 ghost use Rattle.hw_report.specs.Printing.{CanPrint};
 ghost use Rattle.hw_report.specs.Seen.{report_seen};
 ghost use Rattle.hw_command.specs.Carries.{Carries};
-ghost use Rattle.hw_subject.specs.Meanings.{repair_ships};
 ghost use Rattle.hw_subject.specs.Reading.{naming_of, plan_in};
 ghost use Rattle.hw_subject.specs.Subjects.{subject_of};
 ghost use Rattle.hw_subject.specs.Checks.{check_task};
@@ -56,12 +55,12 @@ fn check_to<D: Desk>(
 
 /// The report of a certificate that was read, by the names of what was given.
 fn reading_report<'a>(read: Result<ReadCert<'_, ()>, CertStop>, given: &'a Given) -> Report<'a>
-    ensures value { report_seen result ≡ report_of_reading (naming_of given.now.named) (repair_ships given.now.flat (plan_in given.now.repair)) read.entry }
+    ensures value { report_seen result ≡ report_of_reading (naming_of given.now.named) (plan_in given.now.repair) read.entry }
     ensures printed { CanPrint (report_seen result) }
 {
-    let ships = given.repaired_ships();
+    let plan = given.plan();
     match read {
-        Ok(read) => check_report(Ok(read.outcome), read.bound, ships, given.names()),
-        Err(stop) => check_report(Err(stop), None, ships, given.names()),
+        Ok(read) => check_report(Ok(read.outcome), read.bound, plan, given.names()),
+        Err(stop) => check_report(Err(stop), None, plan, given.names()),
     }
 }

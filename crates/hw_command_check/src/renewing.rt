@@ -139,5 +139,5 @@ fn shown_report<'a>(shown: ShownAgain, given: &'a Given) -> Report<'a>
     ensures printed { CanPrint (report_seen result) }
 {
     let outcome = Ok(CertOutcome::Shows(shown.verdict));
-    check_report(outcome, shown.bound, given.repaired_ships(), given.names())
+    check_report(outcome, shown.bound, given.plan(), given.names())
 }

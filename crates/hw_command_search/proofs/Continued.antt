@@ -68,21 +68,21 @@ is_bounded {f = f} {r = r} flat h = subst (λ (b : Option ℕ). IfSome b (IsBoun
 
 -- ---- of the subject
 
-spent_by : (f : Problem) (plan : Option PlanParts) (ships budget : ℕ) (spent : Bool) (v : Verdict) (more all : List Line) → (spent ≡ true → IsBudgetSpent f budget more all) → IsNewlySpent budget (own_head plan ships (verdict_head budget spent v)) more all
-spent_by f plan ships budget spent (verdicts.Optimal c) more all h = tt
-spent_by f plan ships budget spent verdicts.Infeasible more all h = tt
-spent_by f plan ships budget true (verdicts.Unfinished best) more all h = let s = h refl in (s.lemmas, s.unclosed)
-spent_by f plan ships budget false (verdicts.Unfinished best) more all h = tt
+spent_by : (f : Problem) (plan : Option PlanParts) (budget : ℕ) (spent : Bool) (v : Verdict) (more all : List Line) → (spent ≡ true → IsBudgetSpent f budget more all) → IsNewlySpent budget (own_head plan (verdict_head budget spent v)) more all
+spent_by f plan budget spent (verdicts.Optimal c) more all h = tt
+spent_by f plan budget spent verdicts.Infeasible more all h = tt
+spent_by f plan budget true (verdicts.Unfinished best) more all h = let s = h refl in (s.lemmas, s.unclosed)
+spent_by f plan budget false (verdicts.Unfinished best) more all h = tt
 
-pub goes_on_to : {f : Problem} {plan : Option PlanParts} {budget : ℕ} {start : List Line} {r : Resumed} → IfSome plan (PlanFits f) → IsFlat (repaired_problem f plan) → Resumes (repaired_problem f plan) budget start r → GoesOnTo f plan budget (own_head plan f.ships (resumed_found budget r).head) r.table (own_bound plan f.ships r.bound) start r.lines.items
-goes_on_to {f = f} {plan = plan} {budget = budget} {r = r} fits flat h =
+pub goes_on_to : {f : Problem} {plan : Option PlanParts} {budget : ℕ} {start : List Line} {r : Resumed} → IsFlat f → IfSome plan (PlanFits f) → IsFlat (repaired_problem f plan) → Resumes (repaired_problem f plan) budget start r → GoesOnTo f plan budget (own_head plan (resumed_found budget r).head) r.table (own_bound plan r.bound) start r.lines.items
+goes_on_to {f = f} {plan = plan} {budget = budget} {r = r} limits fits flat h =
     let g = repaired_problem f plan in
     let head = (resumed_found budget r).head in
     record {
       goes_on = h.goes_on;
       few = h.few;
       last = sym h.table;
-      last_bound = ap (own_bound plan f.ships) (sym h.bound);
-      verdict = tells_by g budget r.is_spent r.lines.items r.verdict h.verdict ∙ ap (λ (d : Head). head_verdict d (best_of g r.lines.items)) (head_is f plan budget (room_count g) head r.table fits (is_meant flat h));
-      spent = spent_by g plan f.ships budget r.is_spent r.verdict h.goes_on.more r.lines.items h.spent;
+      last_bound = ap (own_bound plan) (sym h.bound);
+      verdict = tells_by g budget r.is_spent r.lines.items r.verdict h.verdict ∙ ap (λ (d : Head). head_verdict d (best_of g r.lines.items)) (head_is f plan budget (room_count g) head r.table limits fits (is_meant flat h));
+      spent = spent_by g plan budget r.is_spent r.verdict h.goes_on.more r.lines.items h.spent;
     }

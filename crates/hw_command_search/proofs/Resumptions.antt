@@ -12,8 +12,13 @@ use Rattle.hw_cert_lines.specs.declared.line.Line.{Line}
 use Rattle.hw_cert.specs.declared.version.Version.TheVariants.{Three}
 use Rattle.hw_cert.specs.Texts.{cert_text}
 use Rattle.hw_cert.proofs.Answered.{told_map}
-use Rattle.hw_report.specs.Printing.{CanPrint, IsTableOfProblem}
+use Rattle.hw_report.specs.Printing.{CanPrint}
 use Rattle.hw_report.specs.Reports.{Report, Naming, solved, refused, too_long}
+use Rattle.hw_repair.specs.declared.plan.Judged.{Judged}
+use Rattle.hw_repair.specs.declared.plan.Judged.TheVariants.{WholeDay, FromNow}
+use Rattle.hw_repair.specs.declared.plan.Wish.{Wish}
+use Rattle.hw_repair.specs.AsOf.{problem_by}
+use Rattle.hw_repair.specs.Repaired.{repaired_by}
 use Rattle.hw_repair.specs.Wishes.{PlanParts}
 use Rattle.hw_command.specs.Carries.{Carries}
 use Rattle.hw_command.specs.Certificates.{report_of_check}
@@ -43,15 +48,15 @@ use Rattle.hw_subject.proofs.Certless.{IsCertless, certless}
 use Rattle.hw_subject.proofs.Meant.{printed_table}
 use Rattle.hw_subject.proofs.Readings.{before_last}
 use Rattle.hw_command_search.specs.Certified.{own_bound}
-use Rattle.hw_command_search.specs.Finding.{PlanHasSlots, found_report, moved_told, own_head, report_of_finding as report_of_found}
+use Rattle.hw_command_search.specs.Finding.{found_report, own_head, report_of_finding as report_of_found}
 use Rattle.hw_command_search.specs.Resumes.{ResumeSays, Resumed as IsResumed, resume_task}
 use Rattle.hw_command_search.specs.Resuming.{ResumesTo, SendsResumed, Unanswered, resumed_found}
 use Rattle.hw_command_search.specs.declared.finding.Found.{Found}
 use Rattle.hw_command.specs.declared.ending.Ending.{Ending}
 use Rattle.hw_command.specs.declared.ending.Ending.TheVariants as outcomes
 use Rattle.hw_command_search.proofs.Continued.{goes_on_to, is_bounded, is_meant, is_permitted}
-use Rattle.hw_command_search.proofs.Finishing.{same_report}
-use Rattle.hw_command_search.proofs.Owned.{bound_says, has_slots, head_says}
+use Rattle.hw_command_search.proofs.Finishing.{prints, same_report}
+use Rattle.hw_command_search.proofs.Owned.{bound_says, head_says}
 
 -- ---- the start
 
@@ -62,7 +67,7 @@ of_judged s cert proof budget y z end h k = subst (λ (f : Problem). ResumesTo f
 -- ---- the inputs give nothing
 
 refuses_says : (s : Subject) (cert proof : List ℕ) (budget : ℕ) (x y : DeskState) (r : Report) → IsCertless s → s.Refuses x.held r → ResumeSays s cert budget proof x y (Some r)
-refuses_says s cert proof budget x y (solved head f names table moved bound) h k = absurd (h.silent x.held _ k refl)
+refuses_says s cert proof budget x y (solved head f names table plan bound) h k = absurd (h.silent x.held _ k refl)
 refuses_says s cert proof budget x y (refused number word hint) h k = absurd (h.refused x.held number word hint k)
 refuses_says s cert proof budget x y (too_long Certificate) h k = absurd (h.long x.held k)
 refuses_says s cert proof budget x y r h k = k
@@ -92,32 +97,36 @@ unanswered_meets topic {cert = cert} {proof = proof} {budget = budget} {x = x} {
 
 -- ---- the lines went to Proof
 
+rooms_by : (f : Problem) (judged : Judged) (wishes : List Wish) → room_count (repaired_by (problem_by judged f wishes) wishes) ≡ room_count f
+rooms_by f (WholeDay withdrawn) wishes = refl
+rooms_by f (FromNow now out) wishes = refl
+
+same_rooms : (f : Problem) (plan : Option PlanParts) → room_count (repaired_problem f plan) ≡ room_count f
+same_rooms f None = refl
+same_rooms f (Some plan) = rooms_by f plan.judged plan.wishes
+
 -- what is found of it
 found_says : (topic : Topic) {cert proof : List ℕ} {budget : ℕ} {x y z : DeskState} {given : Given} {found : Found} → (h : ReadsSubject (topic_subject topic) x y given) → (k : SendsResumed (judged (topic_subject topic) h.value) cert budget proof y z found (Ok tt)) → MakesProof proof x z
-    → let r = k.resumed in IsResumed (topic_subject topic) cert budget proof x z (own_head ((topic_subject topic).plan h.value) ((topic_subject topic).problem h.value).ships (resumed_found budget r).head) ((topic_subject topic).problem h.value) ((topic_subject topic).naming h.value) r.table (moved_told ((topic_subject topic).plan h.value) r.table) (own_bound ((topic_subject topic).plan h.value) ((topic_subject topic).problem h.value).ships r.bound)
+    → let r = k.resumed in IsResumed (topic_subject topic) cert budget proof x z (own_head ((topic_subject topic).plan h.value) (resumed_found budget r).head) ((topic_subject topic).problem h.value) ((topic_subject topic).naming h.value) r.table ((topic_subject topic).plan h.value) (own_bound ((topic_subject topic).plan h.value) r.bound)
 found_says topic {cert = cert} {budget = budget} {z = z} h k made =
     let r = k.resumed in
     let s = topic_subject topic in
     let v = h.value in
     let f = s.problem v in
     let m = modelled topic h in
-    let own = own_head (s.plan v) f.ships (resumed_found budget r).head in
+    let own = own_head (s.plan v) (resumed_found budget r).head in
     let resumes = subst (λ (ls : List Line). Resumes (judged s v) budget ls r) k.starts.lines k.resumes in
     record {
       start = starts topic h k.starts.starts;
       problem = refl;
       naming = refl;
-      counted = refl;
+      planned = refl;
       made = made;
       permitted = printed_table s v r.table m (is_permitted m.limits k.resumes);
       means = subst (λ (most : ℕ). HeadSays s v budget most own r.table) (same_rooms f (s.plan v)) (head_says s v budget (room_count (judged s v)) (resumed_found budget r).head r.table m (is_meant m.limits k.resumes));
       bounded = bound_says s v r.bound m (is_bounded m.limits k.resumes);
-      certificate = told_map (z.trays tray.Proof).sent (λ bytes text. record { lines = r.lines.items; text = text; goes_on = goes_on_to m.fits m.limits resumes }) k.sends.answer.1;
+      certificate = told_map (z.trays tray.Proof).sent (λ bytes text. record { lines = r.lines.items; text = text; goes_on = goes_on_to m.reported m.fits m.limits resumes }) k.sends.answer.1;
     }
-  where
-    same_rooms : (f : Problem) (plan : Option PlanParts) → room_count (repaired_problem f plan) ≡ room_count f
-    same_rooms f None = refl
-    same_rooms f (Some plan) = refl
 
 -- ---- by what comes of the certificate
 
@@ -147,12 +156,6 @@ found_permitted topic {cert = cert} {proof = proof} {budget = budget} {y = y} {z
     let there = of_judged s cert proof budget y z (outcomes.Sent found) h k in
     subst (λ (it : Found). IfSome it.table (Permits (judged s h.value))) (sym there.found_in) (is_permitted (modelled topic h).limits there.resumes)
 
--- it has a slot for each wish
-pub resumed_slots : (topic : Topic) {cert proof : List ℕ} {budget : ℕ} {x y z : DeskState} {given : Given} (found : Found) → ReadsSubject (topic_subject topic) x y given → ResumesTo (searched_in given.flat given.repair) cert budget proof y z (outcomes.Sent found) → PlanHasSlots (plan_in given.repair) found.table
-resumed_slots topic found h k =
-    let s = topic_subject topic in
-    subst (λ (plan : Option PlanParts). PlanHasSlots plan found.table) (sym h.plan) (has_slots (s.problem h.value) (s.plan h.value) found.table (modelled topic h).fits (found_permitted topic found h k))
-
 -- ---- the lines are sent
 
 pub sends_resumed : {f : Problem} {cert proof : List ℕ} {budget : ℕ} {x y z : DeskState} {sent : Result Unit DeskFailed} (start : Course) (r : Resumed) (found : Found) → StartsCourse f cert x y start → found ≡ resumed_found budget r → Resumes start.flat.now budget start.lines.items r → SendsTo proof (cert_text Three r.lines.items) y z sent → SendsResumed f cert budget proof x z found sent
@@ -168,12 +171,5 @@ sends_resumed {budget = budget} {y = y} start r found h is resumes sends = recor
 
 -- ---- the report can be printed
 
-listed : (f : Problem) (plan : Option PlanParts) (table : Option (List ℕ)) → IfSome table (Permits (repaired_problem f plan)) → IsTableOfProblem f table
-listed f plan None h = tt
-listed f None (Some table) h = h.listed
-listed f (Some plan) (Some table) h = record { each_ship = h.listed.each_ship; each_slot = h.listed.each_slot }
-
 pub can_print : (topic : Topic) {cert proof : List ℕ} {budget : ℕ} {x y z : DeskState} {given : Given} (found : Found) → ReadsSubject (topic_subject topic) x y given → ResumesTo (searched_in given.flat given.repair) cert budget proof y z (outcomes.Sent found) → CanPrint (report_of_found given found)
-can_print topic found h k =
-    let s = topic_subject topic in
-    (subst (λ (f : Problem). IsTableOfProblem f found.table) (sym h.problem) (listed (s.problem h.value) (s.plan h.value) found.table (found_permitted topic found h k)), h.printable)
+can_print topic found h k = prints topic found h (found_permitted topic found h k)

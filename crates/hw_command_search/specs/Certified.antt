@@ -17,7 +17,7 @@ use Rattle.hw_cert.specs.Told.{header_line, IsTextOf}
 use Rattle.hw_report.specs.declared.report.Head.{Head}
 use Rattle.hw_report.specs.declared.report.Head.TheVariants.{Optimal, Infeasible, Unfinished, Memory}
 use Rattle.hw_repair.specs.Repaired.{own_cargo}
-use Rattle.hw_repair.specs.Wishes.{PlanParts}
+use Rattle.hw_repair.specs.Wishes.{PlanParts, counted}
 use Rattle.hw_subject.specs.Meanings.{moved_by, repaired_problem}
 use Rattle.hw_command_search.specs.Searchers.{Searcher}
 
@@ -69,21 +69,21 @@ ships_moved_in plan None = 0
 ships_moved_in plan (Some table) = moved_by plan table
 
 -- the head of the repair's problem for which a printed head stands, where `count` ships are moved: any more cargo outweighs all ships that keep their slots
-abbrev pub repair_head : ℕ → ℕ → Head → Head
-repair_head ships count (Optimal c) = Optimal ((ships + 1) * c + ships - count)
-repair_head ships count Infeasible = Infeasible
-repair_head ships count (Unfinished budget) = Unfinished budget
-repair_head ships count Memory = Memory
+abbrev pub repair_head : PlanParts → ℕ → Head → Head
+repair_head plan count (Optimal c) = Optimal ((length plan.wishes + 1) * c + counted plan - count)
+repair_head plan count Infeasible = Infeasible
+repair_head plan count (Unfinished budget) = Unfinished budget
+repair_head plan count Memory = Memory
 
 -- the head of the problem that was searched, for which a printed head stands with a timetable or none
-abbrev pub searched_head : Option PlanParts → ℕ → Option (List ℕ) → Head → Head
-searched_head None ships table head = head
-searched_head (Some plan) ships table head = repair_head ships (ships_moved_in (Some plan) table) head
+abbrev pub searched_head : Option PlanParts → Option (List ℕ) → Head → Head
+searched_head None table head = head
+searched_head (Some plan) table head = repair_head plan (ships_moved_in (Some plan) table) head
 
 -- the bound that is printed for one of the problem that was searched: of a repair the quotient, rounded down
-abbrev pub own_bound : Option PlanParts → ℕ → Option ℕ → Option ℕ
-own_bound None ships bound = bound
-own_bound (Some plan) ships bound = option_map (own_cargo ships) bound
+abbrev pub own_bound : Option PlanParts → Option ℕ → Option ℕ
+own_bound None bound = bound
+own_bound (Some plan) bound = option_map (own_cargo plan) bound
 
 -- a printed bound is above the printed cargo; of a repair both are quotients, which may be the same
 abbrev pub PrintedBoundIsAbove : Problem → Option PlanParts → Head → Option (List ℕ) → Option ℕ → Type 0
@@ -95,8 +95,8 @@ PrintedBoundIsAbove f (Some plan) head table bound = ⊤
 -- lines show a printed head with a timetable or none and a printed bound or none, of a problem or of its repair: their verdict is that of the head for which the printed one stands, the timetable is their last table, and the bound stands for their last one
 pub record ShowsHead (f : Problem) (plan : Option PlanParts) (budget : ℕ) (head : Head) (table : Option (List ℕ)) (bound : Option ℕ) (all : List Line) : Type 0 where
   pub last : last_table all ≡ table
-  pub last_bound : own_bound plan f.ships (bound_of all) ≡ bound
-  pub verdict : verdict (repaired_problem f plan) all ≡ head_verdict (searched_head plan f.ships table head) (best_of (repaired_problem f plan) all)
+  pub last_bound : own_bound plan (bound_of all) ≡ bound
+  pub verdict : verdict (repaired_problem f plan) all ≡ head_verdict (searched_head plan table head) (best_of (repaired_problem f plan) all)
   pub spent : HeadSpendsBudget budget head all
 
 -- the bytes are the text of lines of the problem that was searched, which show these

@@ -1,18 +1,18 @@
 -- What a search found, and how it is reported.
-use Rattle.std.specs.Prelude.{◌≡◌, ℕ, List, Option, Some, None, IfSome, length}
+use Rattle.std.specs.Prelude.{ℕ, List, Option, Some, None}
 use Rattle.hw_model.specs.Problem.{Problem}
 use Rattle.hw_search_laws.specs.declared.outcome.Solved.{Solved}
 use Rattle.hw_search_laws.specs.declared.outcome.Solved.TheVariants as solved
 use Rattle.hw_turns.specs.declared.outcome.Crewed.{Crewed}
 use Rattle.hw_turns.specs.declared.outcome.Crewed.TheVariants as crewed
+use Rattle.hw_report.specs.Plans.{own_worth}
 use Rattle.hw_report.specs.Reports.{Report, Naming, solved as solved_report}
 use Rattle.hw_report.specs.declared.report.Head.{Head}
 use Rattle.hw_report.specs.declared.report.Head.TheVariants.{Optimal, Infeasible, Unfinished, Memory}
 use Rattle.hw_repair.specs.Wishes.{PlanParts}
-use Rattle.hw_subject.specs.Meanings.{own_worth}
 use Rattle.hw_subject.specs.Reading.{naming_of, plan_in}
 use Rattle.hw_subject.specs.declared.subject.Given.{Given}
-use Rattle.hw_command_search.specs.Certified.{ships_moved_in, own_bound}
+use Rattle.hw_command_search.specs.Certified.{own_bound}
 use Rattle.hw_command_search.specs.declared.finding.Found.{Found}
 
 -- ---- by how a search ended
@@ -39,24 +39,15 @@ found_by_crew budget crewed.LogFailed = None
 -- ---- as it is reported
 
 -- the head that is printed: it has the subject's own cargo, for which that of the problem that was searched stands
-abbrev pub own_head : Option PlanParts → ℕ → Head → Head
-own_head plan ships (Optimal d) = Optimal (own_worth plan ships d)
-own_head plan ships Infeasible = Infeasible
-own_head plan ships (Unfinished budget) = Unfinished budget
-own_head plan ships Memory = Memory
-
--- how many ships a timetable moves, as it is reported of a repair
-abbrev pub moved_told : Option PlanParts → Option (List ℕ) → Option ℕ
-moved_told None table = None
-moved_told (Some plan) table = Some (ships_moved_in (Some plan) table)
+abbrev pub own_head : Option PlanParts → Head → Head
+own_head plan (Optimal d) = Optimal (own_worth plan d)
+own_head plan Infeasible = Infeasible
+own_head plan (Unfinished budget) = Unfinished budget
+own_head plan Memory = Memory
 
 -- the report of what was found, of a problem by its names, or of its repair
 abbrev pub found_report : Problem → Naming → Option PlanParts → Found → Report
-found_report f names plan found = solved_report (own_head plan f.ships found.head) f names found.table (moved_told plan found.table) (own_bound plan f.ships found.bound)
+found_report f names plan found = solved_report (own_head plan found.head) f names found.table plan (own_bound plan found.bound)
 
 abbrev pub report_of_finding : Given → Found → Report
 report_of_finding given found = found_report given.flat (naming_of given.named) (plan_in given.repair) found
-
--- the timetable has a slot for each wish of the plan
-abbrev pub PlanHasSlots : Option PlanParts → Option (List ℕ) → Type 0
-PlanHasSlots plan table = IfSome plan (λ plan. IfSome table (λ slots. length plan.wishes ≡ length slots))

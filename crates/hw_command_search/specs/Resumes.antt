@@ -30,7 +30,6 @@ use Rattle.hw_subject.specs.Shown.{Refused, Starts}
 use Rattle.hw_subject.specs.Subjects.{Subject}
 use Rattle.hw_subject.specs.CertTasks.{cert_task}
 use Rattle.hw_command_search.specs.Certified.{head_verdict, own_bound, searched_head}
-use Rattle.hw_command_search.specs.Finding.{moved_told}
 
 -- ---- the lines
 
@@ -46,8 +45,8 @@ pub record GoesOnTo (f : Problem) (plan : Option PlanParts) (budget : ℕ) (head
   pub goes_on : LinesGoOn (repaired_problem f plan) start all
   pub few : length (lemmas_of goes_on.more) ≤ budget
   pub last : last_table all ≡ table
-  pub last_bound : own_bound plan f.ships (bound_of all) ≡ bound
-  pub verdict : verdict (repaired_problem f plan) all ≡ head_verdict (searched_head plan f.ships table head) (best_of (repaired_problem f plan) all)
+  pub last_bound : own_bound plan (bound_of all) ≡ bound
+  pub verdict : verdict (repaired_problem f plan) all ≡ head_verdict (searched_head plan table head) (best_of (repaired_problem f plan) all)
   pub spent : IsNewlySpent budget head goes_on.more all
 
 -- the bytes are the text of such lines
@@ -58,12 +57,12 @@ pub record IsLonger (f : Problem) (plan : Option PlanParts) (budget : ℕ) (head
 
 -- ---- what is said
 
--- what is read, that of the inputs where they are told, and the lines of the certificate; what a head says of it, and a bound that no permitted timetable passes; of a repair the number is that of the ships that the timetable moves. Proof was made, and holds a certificate that begins with those lines and shows all this, where it is told
-pub record Resumed (s : Subject) (cert : List ℕ) (budget : ℕ) (proof : List ℕ) (old new : DeskState) (head : Head) (f : Problem) (names : Naming) (table : Option (List ℕ)) (moved bound : Option ℕ) : Type 0 where
+-- what is read, that of the inputs where they are told, and the lines of the certificate; what a head says of it, and a bound that no permitted timetable passes; and the plan, if one is repaired. Proof was made, and holds a certificate that begins with those lines and shows all this, where it is told
+pub record Resumed (s : Subject) (cert : List ℕ) (budget : ℕ) (proof : List ℕ) (old new : DeskState) (head : Head) (f : Problem) (names : Naming) (table : Option (List ℕ)) (plan : Option PlanParts) (bound : Option ℕ) : Type 0 where
   pub start : Starts s cert old.held
   pub problem : f ≡ s.problem start.value
   pub naming : names ≡ s.naming start.value
-  pub counted : moved ≡ moved_told (s.plan start.value) table
+  pub planned : plan ≡ s.plan start.value
   pub made : MakesProof proof old new
   pub permitted : IfSome table (IsPrintedTable s start.value)
   pub means : HeadSays s start.value budget (room_count (s.problem start.value)) head table
@@ -89,7 +88,7 @@ pub record ResumeBreaks (s : Subject) (cert : List ℕ) (budget : ℕ) (old new 
 -- what a report says of the inputs, of the certificate and of Proof, each as far as it is told; none is a write fault on Proof, and nothing else is printed
 abbrev pub ResumeSays : Subject → List ℕ → ℕ → List ℕ → DeskState → DeskState → Option Report → Type 0
 ResumeSays s cert budget proof old new None = ResumeBreaks s cert budget old new
-ResumeSays s cert budget proof old new (Some (solved head f names table moved bound)) = Resumed s cert budget proof old new head f names table moved bound
+ResumeSays s cert budget proof old new (Some (solved head f names table plan bound)) = Resumed s cert budget proof old new head f names table plan bound
 ResumeSays s cert budget proof old new (Some (refused number word hint)) = Refused s Three cert old.held (Wrong number word hint) ⊎ IsNotTaken s cert old.held number word hint
 ResumeSays s cert budget proof old new (Some (too_long Certificate)) = Refused s Three cert old.held TooLong
 ResumeSays s cert budget proof old new (Some r) = s.Refuses old.held r

@@ -3,6 +3,7 @@ use Rattle.std.specs.Prelude.{◌≡◌, ℕ, List, Option, Some, None, IfSome}
 use Rattle.hw_model.specs.Problem.{Problem}
 use Rattle.hw_desk.specs.State.{DeskState}
 use Rattle.hw_desk.specs.declared.desk.Tray.TheVariants as tray
+use Rattle.hw_repair.specs.Wishes.{PlanParts}
 use Rattle.hw_report.specs.Reports.{Report, Naming, solved}
 use Rattle.hw_report.specs.declared.report.Head.{Head}
 use Rattle.hw_command.specs.Carries.{Task, one_report}
@@ -10,16 +11,15 @@ use Rattle.hw_command.specs.Scope.{MakesProof}
 use Rattle.hw_subject.specs.Meanings.{HeadSays, IsBoundOf, IsPrintedTable, judged}
 use Rattle.hw_subject.specs.Subjects.{Subject}
 use Rattle.hw_command_search.specs.Certified.{PrintedBoundIsAbove, IsCertificate, IsCutShort}
-use Rattle.hw_command_search.specs.Finding.{moved_told}
 use Rattle.hw_command_search.specs.Searchers.{Searcher}
 
--- what is read, that of the inputs where they are told, what a head says of it, and a bound that no permitted timetable passes, above the cargo of an unfinished search's timetable; of a repair the number is that of the ships that the timetable moves. Proof was made, and holds the certificate that shows these, where it is told: lines speak of the problem that was searched, by the numbers of its restrictions
-pub record Searched (s : Subject) (q : Searcher) (budget : ℕ) (proof : List ℕ) (old new : DeskState) (head : Head) (f : Problem) (names : Naming) (table : Option (List ℕ)) (moved bound : Option ℕ) : Type 0 where
+-- what is read, that of the inputs where they are told, what a head says of it, and a bound that no permitted timetable passes, above the cargo of an unfinished search's timetable; and the plan, if one is repaired. Proof was made, and holds the certificate that shows these, where it is told: lines speak of the problem that was searched, by the numbers of its restrictions
+pub record Searched (s : Subject) (q : Searcher) (budget : ℕ) (proof : List ℕ) (old new : DeskState) (head : Head) (f : Problem) (names : Naming) (table : Option (List ℕ)) (plan : Option PlanParts) (bound : Option ℕ) : Type 0 where
   pub value : s.Value
   pub reads : s.Reads old.held value
   pub problem : f ≡ s.problem value
   pub naming : names ≡ s.naming value
-  pub counted : moved ≡ moved_told (s.plan value) table
+  pub planned : plan ≡ s.plan value
   pub made : MakesProof proof old new
   pub permitted : IfSome table (IsPrintedTable s value)
   pub means : HeadSays s value budget (q.most (s.problem value)) head table
@@ -36,7 +36,7 @@ pub record SearchBreaks (s : Subject) (q : Searcher) (budget : ℕ) (old new : D
 -- what a report says of the inputs, each where it is told, and of Proof; none is a write fault on Proof. For the same told bytes at most one report but `memory` is right, and nothing else is printed
 abbrev pub SearchSays : Subject → Searcher → ℕ → List ℕ → DeskState → DeskState → Option Report → Type 0
 SearchSays s q budget proof old new None = SearchBreaks s q budget old new
-SearchSays s q budget proof old new (Some (solved head f names table moved bound)) = Searched s q budget proof old new head f names table moved bound
+SearchSays s q budget proof old new (Some (solved head f names table plan bound)) = Searched s q budget proof old new head f names table plan bound
 SearchSays s q budget proof old new (Some r) = s.Refuses old.held r
 
 abbrev pub search_task : Subject → Searcher → ℕ → List ℕ → Task

@@ -34,7 +34,7 @@ use Rattle.hw_cert_course.specs.Courses.{CourseStopsFor}
 use Rattle.hw_cert_join.specs.declared.joined.Joined.{Joined}
 use Rattle.hw_cert_course.specs.declared.stop.CourseStop.{CourseStop}
 use Rattle.hw_cert_course.specs.declared.stop.CourseStop.TheVariants as stops
-use Rattle.hw_subject.specs.Meanings.{judged, repair_ships}
+use Rattle.hw_subject.specs.Meanings.{judged}
 use Rattle.hw_repair.specs.Wishes.{PlanParts}
 use Rattle.hw_subject.specs.Reading.{ReadsSubject, StopsAtSubject, naming_of, plan_in, searched_in}
 use Rattle.hw_subject.specs.Subjects.{Subject, Topic, topic_subject}
@@ -94,7 +94,7 @@ of_judged s certs proof z w nodes end h k = subst (λ (f : Problem). JoinsTo f n
 -- ---- the inputs give nothing
 
 refuses_says : (s : Subject) (split certs proof : List ℕ) (x y : DeskState) (r : Report) → IsCertless s → IsSplitless s → s.Refuses x.held r → JoinSays s split certs proof x y (r ∷ [])
-refuses_says s split certs proof x y (checked v bound ships names) h d k = absurd (h.silent x.held _ k refl)
+refuses_says s split certs proof x y (checked v bound plan names) h d k = absurd (h.silent x.held _ k refl)
 refuses_says s split certs proof x y (refused line word hint) h d k = absurd (h.refused x.held line word hint k)
 refuses_says s split certs proof x y (too_long feeds.Certificate) h d k = absurd (h.long x.held k)
 refuses_says s split certs proof x y (bad_text feeds.Split line word) h d k = absurd (d.bad x.held line word k)
@@ -181,14 +181,14 @@ joins_certs topic {certs = certs} j h k m = record {
   joins = m.joins;
 }
 
-joined_done : (topic : Topic) {split certs proof : List ℕ} {x y z w : DeskState} {given : Given} {nodes : List Node} (j : Joined) → (h : ReadsSubject (topic_subject topic) x y given) → ReadsSplit (searched_in given.flat given.repair) split y z nodes → SendsJoined (judged (topic_subject topic) h.value) nodes certs proof z w j (Ok tt) → JoinDone (topic_subject topic) split certs proof x w j.verdict j.bound (repair_ships ((topic_subject topic).problem h.value) ((topic_subject topic).plan h.value)) ((topic_subject topic).naming h.value) j.first_open
+joined_done : (topic : Topic) {split certs proof : List ℕ} {x y z w : DeskState} {given : Given} {nodes : List Node} (j : Joined) → (h : ReadsSubject (topic_subject topic) x y given) → ReadsSplit (searched_in given.flat given.repair) split y z nodes → SendsJoined (judged (topic_subject topic) h.value) nodes certs proof z w j (Ok tt) → JoinDone (topic_subject topic) split certs proof x w j.verdict j.bound ((topic_subject topic).plan h.value) ((topic_subject topic).naming h.value) j.first_open
 joined_done topic {w = w} j h k m =
     let s = topic_subject topic in
     let lines = m.joins.joins in
     record {
       joins = joins_certs topic j h k m;
       naming = refl;
-      counted = refl;
+      planned = refl;
       made = made (all_entered topic h k m.reads) m.sends;
       verdict = refl;
       last_bound = refl;
@@ -199,26 +199,26 @@ joined_done topic {w = w} j h k m =
     }
 
 -- what the reports say, by whether a part is open
-joined_says : (s : Subject) (split certs proof : List ℕ) (x w : DeskState) (names : Naming) (ships : Option ℕ) (j : Joined) (first : Option ℕ) → JoinDone s split certs proof x w j.verdict j.bound ships names first → JoinSays s split certs proof x w (checked j.verdict j.bound ships names ∷ open_reports first)
-joined_says s split certs proof x w names ships j None done = done
-joined_says s split certs proof x w names ships j (Some number) done = done
+joined_says : (s : Subject) (split certs proof : List ℕ) (x w : DeskState) (names : Naming) (plan : Option PlanParts) (j : Joined) (first : Option ℕ) → JoinDone s split certs proof x w j.verdict j.bound plan names first → JoinSays s split certs proof x w (checked j.verdict j.bound plan names ∷ open_reports first)
+joined_says s split certs proof x w names plan j None done = done
+joined_says s split certs proof x w names plan j (Some number) done = done
 
 -- the last report is an answer, and no fault
-joined_works : {inputs : List Named} {Gives : Feed → Type 0} {proof text : List ℕ} {x z w : DeskState} (names : Naming) (ships : Option ℕ) (j : Joined) (first : Option ℕ) → Entered inputs x z → GiveBefore Gives inputs → SendsTo {E = DeskFailed} proof text z w (Ok tt) → w.read_faults ≡ x.read_faults → Works inputs Gives (Some proof) x w (last_report (checked j.verdict j.bound ships names) (open_reports first))
-joined_works names ships j None h give sends read = sent_works (checked j.verdict j.bound ships names) refl h give sends read
-joined_works names ships j (Some number) h give sends read = sent_works (open_part number) refl h give sends read
+joined_works : {inputs : List Named} {Gives : Feed → Type 0} {proof text : List ℕ} {x z w : DeskState} (names : Naming) (plan : Option PlanParts) (j : Joined) (first : Option ℕ) → Entered inputs x z → GiveBefore Gives inputs → SendsTo {E = DeskFailed} proof text z w (Ok tt) → w.read_faults ≡ x.read_faults → Works inputs Gives (Some proof) x w (last_report (checked j.verdict j.bound plan names) (open_reports first))
+joined_works names plan j None h give sends read = sent_works (checked j.verdict j.bound plan names) refl h give sends read
+joined_works names plan j (Some number) h give sends read = sent_works (open_part number) refl h give sends read
 
 sent_meets : (topic : Topic) {split certs proof : List ℕ} {x y z w end : DeskState} {given : Given} {nodes : List Node} {e : Status} (j : Joined) → (h : ReadsSubject (topic_subject topic) x y given) → ReadsSplit (searched_in given.flat given.repair) split y z nodes → SendsJoined (judged (topic_subject topic) h.value) nodes certs proof z w j (Ok tt)
-    → Ends (joined_reports ((topic_subject topic).naming h.value) (repair_ships ((topic_subject topic).problem h.value) ((topic_subject topic).plan h.value)) j) w end e → Carries (join_task (topic_subject topic) split certs proof) x end e
+    → Ends (joined_reports ((topic_subject topic).naming h.value) ((topic_subject topic).plan h.value) j) w end e → Carries (join_task (topic_subject topic) split certs proof) x end e
 sent_meets topic {split = split} {certs = certs} {proof = proof} {x = x} {w = w} j h k m ends =
     let s = topic_subject topic in
     let names = s.naming h.value in
-    let ships = repair_ships (s.problem h.value) (s.plan h.value) in
+    let plan = s.plan h.value in
     record {
       mid = w;
-      reports = joined_reports names ships j;
-      works = as_task s split certs (joined_works names ships j j.first_open (all_entered topic h k m.reads) (give_all topic certs h k) m.sends (m.sends.only.read_faults ∙ (m.reads.answer.0 ∙ (k.read_faults ∙ h.read_faults))));
-      says = λ own. joined_says s split certs proof x w names ships j j.first_open (joined_done topic j h k m);
+      reports = joined_reports names plan j;
+      works = as_task s split certs (joined_works names plan j j.first_open (all_entered topic h k m.reads) (give_all topic certs h k) m.sends (m.sends.only.read_faults ∙ (m.reads.answer.0 ∙ (k.read_faults ∙ h.read_faults))));
+      says = λ own. joined_says s split certs proof x w names plan j j.first_open (joined_done topic j h k m);
       ends = ends;
     }
 
@@ -240,12 +240,11 @@ stopped_carries topic {certs = certs} {z = z} {given = given} w stopped h k (inl
 stopped_carries topic {certs = certs} {z = z} {given = given} w stopped h k (inr m) ends = unjoined_meets topic (naming_of given.named) stopped h k (subst (λ (f : Problem). Unjoined f certs z w stopped) h.searched m) ends
 
 pub sent_carries : (topic : Topic) {split certs proof : List ℕ} {x y z end : DeskState} {given : Given} {nodes : List Node} {e : Status} (w : DeskState) (j : Joined) → (h : ReadsSubject (topic_subject topic) x y given) → ReadsSplit (searched_in given.flat given.repair) split y z nodes → JoinsTo (searched_in given.flat given.repair) nodes certs proof z w (outcomes.Sent j)
-    → Ends (joined_reports (naming_of given.named) (repair_ships given.flat (plan_in given.repair)) j) w end e → Carries (join_task (topic_subject topic) split certs proof) x end e
+    → Ends (joined_reports (naming_of given.named) (plan_in given.repair) j) w end e → Carries (join_task (topic_subject topic) split certs proof) x end e
 sent_carries topic {certs = certs} {proof = proof} {z = z} {end = end} {given = given} {nodes = nodes} {e = e} w j h k m ends =
     let s = topic_subject topic in
-    let named = subst (λ (names : Naming). Ends (joined_reports names (repair_ships given.flat (plan_in given.repair)) j) w end e) h.naming ends in
-    let planned = subst (λ (plan : Option PlanParts). Ends (joined_reports (s.naming h.value) (repair_ships given.flat plan) j) w end e) h.plan named in
-    sent_meets topic j h k (of_judged s certs proof z w nodes (outcomes.Sent j) h m) (subst (λ (f : Problem). Ends (joined_reports (s.naming h.value) (repair_ships f (s.plan h.value)) j) w end e) h.problem planned)
+    let named = subst (λ (names : Naming). Ends (joined_reports names (plan_in given.repair) j) w end e) h.naming ends in
+    sent_meets topic j h k (of_judged s certs proof z w nodes (outcomes.Sent j) h m) (subst (λ (plan : Option PlanParts). Ends (joined_reports (s.naming h.value) plan j) w end e) h.plan named)
 
 pub broke_carries : (topic : Topic) {split certs proof : List ℕ} {x y z : DeskState} {given : Given} {nodes : List Node} (w : DeskState) → (h : ReadsSubject (topic_subject topic) x y given) → ReadsSplit (searched_in given.flat given.repair) split y z nodes → JoinsTo (searched_in given.flat given.repair) nodes certs proof z w outcomes.WriteFailed → Carries (join_task (topic_subject topic) split certs proof) x w WriteFault
 broke_carries topic {certs = certs} {proof = proof} {z = z} {nodes = nodes} w h k m =
@@ -255,5 +254,5 @@ broke_carries topic {certs = certs} {proof = proof} {z = z} {nodes = nodes} w h 
 -- ---- the reports
 
 -- of joined certificates, by whether a part is open
-pub told_of : {x y : DeskState} {s : Status} (names : Naming) (ships : Option ℕ) (j : Joined) (first : Option ℕ) → j.first_open ≡ first → Ends (checked j.verdict j.bound ships names ∷ open_reports first) x y s → Ends (joined_reports names ships j) x y s
-told_of {x = x} {y = y} {s = s} names ships j first is ends = subst (λ (first : Option ℕ). Ends (checked j.verdict j.bound ships names ∷ open_reports first) x y s) (sym is) ends
+pub told_of : {x y : DeskState} {s : Status} (names : Naming) (plan : Option PlanParts) (j : Joined) (first : Option ℕ) → j.first_open ≡ first → Ends (checked j.verdict j.bound plan names ∷ open_reports first) x y s → Ends (joined_reports names plan j) x y s
+told_of {x = x} {y = y} {s = s} names plan j first is ends = subst (λ (first : Option ℕ). Ends (checked j.verdict j.bound plan names ∷ open_reports first) x y s) (sym is) ends

@@ -13,6 +13,7 @@ use Rattle.hw_cert_lines.specs.Valid.{LineFits, Valid}
 use Rattle.hw_cert.specs.declared.version.Version.TheVariants.{Three}
 use Rattle.hw_cert.specs.Stream.{cert_stream_to}
 use Rattle.hw_cert.specs.Texts.{cert_text}
+use Rattle.hw_repair.specs.Wishes.{PlanParts}
 use Rattle.hw_report.specs.Reports.{Report, Naming, checked, open_part}
 use Rattle.hw_command.specs.Certificates.{cert_outcome_to}
 use Rattle.hw_command.specs.Checking.{NoOutcome}
@@ -170,6 +171,6 @@ abbrev pub open_reports : Option ℕ → List Report
 open_reports None = []
 open_reports (Some number) = open_part number ∷ []
 
--- what joined certificates show, of a repair for this many ships, and the first part that they leave open, if there is one
-abbrev pub joined_reports : Naming → Option ℕ → Joined → List Report
-joined_reports names ships j = checked j.verdict j.bound ships names ∷ open_reports j.first_open
+-- what joined certificates show, of a problem or of the repair of its plan, and the first part that they leave open, if there is one
+abbrev pub joined_reports : Naming → Option PlanParts → Joined → List Report
+joined_reports names plan j = checked j.verdict j.bound plan names ∷ open_reports j.first_open

@@ -12,6 +12,8 @@ use Rattle.hw_cert_lines.specs.declared.line.Line.{Line}
 use Rattle.hw_cert_lines.specs.Lines.{last_table}
 use Rattle.hw_cert.specs.declared.version.Version.TheVariants.{Three}
 use Rattle.hw_cert.specs.Texts.{cert_text}
+use Rattle.hw_repair.specs.Wishes.{PlanParts}
+use Rattle.hw_report.specs.Plans.{own_worth}
 use Rattle.hw_report.specs.Reports.{Report, Naming, bad_text, checked, open_part, refused, too_long}
 use Rattle.hw_report.specs.declared.report.RefusedWord.TheVariants.{Check}
 use Rattle.hw_command.specs.Carries.{Task}
@@ -23,7 +25,7 @@ use Rattle.hw_cert_course.specs.Going.{LineFails}
 use Rattle.hw_cert_join.specs.Joining.{JoinsEach}
 use Rattle.hw_cert_join.specs.declared.joined.Joined.{Joined}
 use Rattle.hw_split_text.specs.declared.node.Node.{Node}
-use Rattle.hw_subject.specs.Meanings.{IsBoundOf, VerdictSays, judged, own_worth, repair_ships}
+use Rattle.hw_subject.specs.Meanings.{IsBoundOf, VerdictSays, judged}
 use Rattle.hw_subject.specs.Subjects.{Subject, LongText}
 use Rattle.hw_command_split.specs.Certs.{AreCerts, CertsStopIn}
 use Rattle.hw_command_split.specs.Splits.{IsBadSplit, IsSplitOf}
@@ -48,16 +50,16 @@ pub record JoinsCerts (s : Subject) (split certs : List ℕ) (held : List ℕ �
   pub joins : JoinsEach (judged s gives.value) gives.nodes taken joined
 
 -- the certificates were joined, and Proof was made and holds the joined one, where it is told: it shows this verdict and this bound, both true of the problem, and this is the first part that it leaves open, or none
-pub record JoinDone (s : Subject) (split certs proof : List ℕ) (old new : DeskState) (v : Verdict) (bound ships : Option ℕ) (names : Naming) (first : Option ℕ) : Type 0 where
+pub record JoinDone (s : Subject) (split certs proof : List ℕ) (old new : DeskState) (v : Verdict) (bound : Option ℕ) (plan : Option PlanParts) (names : Naming) (first : Option ℕ) : Type 0 where
   pub joins : JoinsCerts s split certs old.held
   pub naming : names ≡ s.naming joins.gives.value
-  pub counted : ships ≡ repair_ships (s.problem joins.gives.value) (s.plan joins.gives.value)
+  pub planned : plan ≡ s.plan joins.gives.value
   pub made : MakesProof proof old new
   pub verdict : v ≡ joins.joined.verdict
   pub last_bound : bound ≡ joins.joined.bound
   pub first_open : first ≡ joins.joined.first_open
   pub means : VerdictSays s joins.gives.value v (last_table joins.joined.lines.items)
-  pub bounds : IfSome bound (λ b. IsBoundOf s joins.gives.value (own_worth (s.plan joins.gives.value) (s.problem joins.gives.value).ships b))
+  pub bounds : IfSome bound (λ b. IsBoundOf s joins.gives.value (own_worth (s.plan joins.gives.value) b))
   pub certificate : IfSome (new.trays tray.Proof).sent (λ bytes. bytes ≡ cert_text Three joins.joined.lines.items)
 
 abbrev pub LineFailsAs : Problem → CertOutcome → Type 0
@@ -83,8 +85,8 @@ pub record BadSplit (s : Subject) (split : List ℕ) (held : List ℕ → Option
 -- what reports say of the inputs, of the split, of the certificates and of Proof, each as far as it is told; none is a write fault on Proof. A verdict is followed by the first open part, if there is one, and nothing else is printed
 abbrev pub JoinSays : Subject → List ℕ → List ℕ → List ℕ → DeskState → DeskState → List Report → Type 0
 JoinSays s split certs proof old new [] = JoinBreaks s split certs old new
-JoinSays s split certs proof old new (checked v bound ships names ∷ []) = JoinDone s split certs proof old new v bound ships names None
-JoinSays s split certs proof old new (checked v bound ships names ∷ open_part number ∷ []) = JoinDone s split certs proof old new v bound ships names (Some number)
+JoinSays s split certs proof old new (checked v bound plan names ∷ []) = JoinDone s split certs proof old new v bound plan names None
+JoinSays s split certs proof old new (checked v bound plan names ∷ open_part number ∷ []) = JoinDone s split certs proof old new v bound plan names (Some number)
 JoinSays s split certs proof old new (refused number word hint ∷ []) = RefusesCerts s split certs old.held (Wrong number word hint)
 JoinSays s split certs proof old new (too_long Certificate ∷ []) = RefusesCerts s split certs old.held TooLong
 JoinSays s split certs proof old new (bad_text Split number word ∷ []) = BadSplit s split old.held number word

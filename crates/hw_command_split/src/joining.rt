@@ -6,7 +6,7 @@ ghost use Rattle.hw_desk.specs.State.{IsNewDesk};
 ghost use Rattle.hw_desk.specs.declared.desk.Feed.TheVariants.{Certificate};
 ghost use Rattle.hw_desk.specs.declared.desk.Tray.TheVariants.{Proof};
 ghost use Rattle.hw_report.specs.Printing.{CanPrint};
-ghost use Rattle.hw_report.specs.Seen.{names_seen, report_seen};
+ghost use Rattle.hw_report.specs.Seen.{names_seen, plan_seen, report_seen};
 ghost use Rattle.hw_split_text.specs.Splits.{IsSplit};
 ghost use Rattle.hw_command.specs.Carries.{Carries};
 ghost use Rattle.hw_command.specs.Ends.{Ends};
@@ -23,6 +23,7 @@ use hw_command::{
 };
 use hw_desk::Desk;
 use hw_flat::Flat;
+use hw_repair::Plan;
 use hw_report::{Names, Report, print_report};
 use hw_split_text::Split;
 use hw_subject::{Subject, read_subject};
@@ -56,7 +57,7 @@ pub fn join_subject<D: Desk>(
             finish(desk, &check_report(stopped, None, None, given.names()))
         }
         Ending::Sent(joined) => {
-            finish_joined(desk, &joined, given.repaired_ships(), given.names())
+            finish_joined(desk, &joined, given.plan(), given.names())
         }
         Ending::WriteFailed => Status::WriteFault,
     }
@@ -91,18 +92,18 @@ fn join_to<D: Desk>(
     }
 }
 
-/// Reports what joined certificates show, of a repair for this many ships, and the first part that they
-/// leave open, if there is one.
+/// Reports what joined certificates show, of a problem or of the repair of its plan, and the first part
+/// that they leave open, if there is one.
 fn finish_joined<D: Desk>(
     desk: &mut D,
     joined: &Joined,
-    ships: Option<u32>,
+    plan: Option<&Plan>,
     names: Names<'_>,
 ) -> Status
-    ensures { Ends (joined_reports (names_seen names.entry) ships joined.now) (D.state desk.old) (D.state desk.new) result }
+    ensures { Ends (joined_reports (names_seen names.entry) (plan_seen plan.entry) joined.now) (D.state desk.old) (D.state desk.new) result }
 {
     let shown = Ok(CertOutcome::Shows(joined.verdict));
-    let shown = check_report(shown, joined.bound, ships, names);
+    let shown = check_report(shown, joined.bound, plan, names);
     match joined.first_open {
         Some(number) => send_both(desk, &shown, &Report::OpenPart { number }),
         None => finish(desk, &shown),

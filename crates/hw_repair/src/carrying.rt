@@ -1,7 +1,7 @@
 //! What a timetable carries by a plan, and what a cargo of the repair's problem stands for. Cargo is
 //! in tenths of a tonne.
 
-ghost use Rattle.std.specs.Prelude.{◌≡◌, ◌<◌, ◌≤◌, IfSome, length, unwrap_or};
+ghost use Rattle.std.specs.Prelude.{◌≡◌, ◌<◌, ◌≤◌, IfSome, unwrap_or};
 ghost use Rattle.hw_model.specs.Problem.{IsTimetable};
 ghost use Rattle.hw_repair.specs.Repaired.{own_cargo, own_moved};
 ghost use Rattle.hw_repair.specs.Wishes.{plan_cargo, rest_cargo_from, rest_value};
@@ -10,7 +10,7 @@ use crate::gone::is_gone;
 use crate::moving::counted;
 use crate::plan::{Judged, Plan, Wish};
 use hw_flat::{Flat, Timetable};
-use hw_model::{MOST_CARGO, MOST_SHIPS, MOST_VALUE, ShipId, Slot};
+use hw_model::{MOST_CARGO, MOST_VALUE, ShipId, Slot};
 use hw_rules::cargo;
 
 /// The value of a ship in a slot, 0 of one that is gone.
@@ -59,18 +59,17 @@ pub fn plan_cargo(flat: &Flat, plan: &Plan, table: &Timetable) -> Option<u64>
 
 /// The cargo by the plan for which a cargo of the repair's problem stands.
 pub fn own_cargo(plan: &Plan, cargo: u64) -> u64
-    requires few { length plan.now.wishes ≤ MOST_SHIPS }
     ensures { result ≡ own_cargo plan.now cargo }
 {
     let ships = plan.wishes.len() as u64;
-    cargo / (ships + 1)
+    if cargo <= ships { 0 } else { cargo / (ships + 1) }
 }
 
 /// The number of moved ships for which a cargo of the repair's problem stands.
 pub fn own_moved(plan: &Plan, cargo: u64) -> u64
-    requires few { length plan.now.wishes ≤ MOST_SHIPS }
     ensures { result ≡ own_moved plan.now cargo }
 {
     let ships = plan.wishes.len() as u64;
-    u64::from(counted(plan)).saturating_sub(cargo % (ships + 1))
+    let rest = if cargo <= ships { cargo } else { cargo % (ships + 1) };
+    (counted(plan) as u64).saturating_sub(rest)
 }

@@ -5,7 +5,7 @@ ghost use Rattle.hw_repair.specs.Wishes.{is_other, wished, moved, counted};
 
 use crate::plan::{Plan, Wish};
 use hw_flat::Timetable;
-use hw_model::{MOST_SHIPS, Slot};
+use hw_model::Slot;
 
 /// Whether the slot is another one than the wish's, which it isn't where the wish has none.
 fn is_other(wish: Wish, slot: Slot) -> bool
@@ -35,8 +35,7 @@ pub fn moved(plan: &Plan, table: &Timetable) -> u32
 
 /// The number of ships with a slot that they could keep: those that have sailed, that are fixed, or
 /// that were planned for a slot.
-pub fn counted(plan: &Plan) -> u32
-    requires few { length plan.now.wishes ≤ MOST_SHIPS }
+pub fn counted(plan: &Plan) -> usize
     ensures value { result ≡ counted plan.now }
     ensures few { result ≤ length plan.now.wishes }
 {

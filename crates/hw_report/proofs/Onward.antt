@@ -1,10 +1,11 @@
 -- Lists in texts, from a place on.
-use Rattle.std.proofs.Common.{◌≡◌, ◌≤◌, ◌<◌, ◌+◌, ◌∙◌, ℕ, zero, suc, List, [], ◌∷◌, ◌++◌, codes, decimal, length, min, drop, get_or, add-one, ap, refl, sym, arith}
+use Rattle.std.proofs.Common.{◌≡◌, ◌≤◌, ◌<◌, ◌+◌, ◌∙◌, ℕ, zero, suc, List, [], ◌∷◌, ◌++◌, Option, codes, decimal, length, min, drop, get_or, add-one, ap, refl, sym, arith}
 use Rattle.std.proofs.Math.ListN.{drop_of_length-le}
 use Rattle.std.proofs.Math.Seq.{drop-cons}
 use Rattle.hw_model.specs.Problem.{Problem}
-use Rattle.hw_report.specs.Lines.{numbers_text, ship_line, ship_lines, reported_drop_line, reported_drop_lines}
 use Rattle.std.specs.List.{concat}
+use Rattle.hw_repair.specs.Wishes.{PlanParts}
+use Rattle.hw_report.specs.Lines.{numbers_text, told_line, ship_lines, reported_drop_line, reported_drop_lines}
 use Rattle.hw_report.specs.Reports.{Naming}
 
 pub number_next : (ns : List ℕ) (i d : ℕ) → i < length ns → numbers_text (drop i ns) ≡ concat (codes " " ∷ decimal (get_or ns i d) ∷ []) ++ numbers_text (drop (i + 1) ns)
@@ -13,13 +14,14 @@ number_next ns i d lt = rw (add-one, drop-cons ns i d lt) refl
 pub numbers_end : (ns : List ℕ) (i : ℕ) → length ns ≤ i → numbers_text (drop i ns) ≡ []
 numbers_end ns i le = ap numbers_text (drop_of_length-le ns le)
 
-pub ship_next : (f : Problem) (names : Naming) (table : List ℕ) (i d : ℕ) → i < length table → ship_lines f names i (drop i table) ≡ ship_line f names i (get_or table i d) ++ ship_lines f names (i + 1) (drop (i + 1) table)
-ship_next f names table i d lt =
+pub ship_next : (f : Problem) (names : Naming) (plan : Option PlanParts) (table : List ℕ) (i d : ℕ) → i < length table
+    → ship_lines f names plan i (drop i table) ≡ told_line f names plan i (get_or table i d) ++ ship_lines f names plan (i + 1) (drop (i + 1) table)
+ship_next f names plan table i d lt =
     let e : suc i ≡ i + 1 = omega arith in
-    ap (ship_lines f names i) (drop-cons table i d lt) ∙ ap (λ (n : ℕ). ship_line f names i (get_or table i d) ++ ship_lines f names (i + 1) (drop n table)) e
+    ap (ship_lines f names plan i) (drop-cons table i d lt) ∙ ap (λ (n : ℕ). told_line f names plan i (get_or table i d) ++ ship_lines f names plan (i + 1) (drop n table)) e
 
-pub ships_end : (f : Problem) (names : Naming) (table : List ℕ) (i : ℕ) → length table ≤ i → ship_lines f names i (drop i table) ≡ []
-ships_end f names table i le = ap (ship_lines f names i) (drop_of_length-le table le)
+pub ships_end : (f : Problem) (names : Naming) (plan : Option PlanParts) (table : List ℕ) (i : ℕ) → length table ≤ i → ship_lines f names plan i (drop i table) ≡ []
+ships_end f names plan table i le = ap (ship_lines f names plan i) (drop_of_length-le table le)
 
 pub drop_next : (ids : List ℕ) (tables : List (List ℕ)) (i d : ℕ) (table : List ℕ) → i < min (length ids) (length tables) → table ≡ get_or tables i table → reported_drop_lines (drop i ids) (drop i tables) ≡ reported_drop_line (get_or ids i d) table ++ reported_drop_lines (drop (i + 1) ids) (drop (i + 1) tables)
 drop_next ids tables i d table lt at =

@@ -11,6 +11,9 @@ use Rattle.hw_port.specs.Places.{path_text}
 use Rattle.hw_port_model.proofs.Small.{small, tides}
 use Rattle.hw_port_model.specs.Flattened.{flattened}
 use Rattle.hw_tide.specs.declared.fault.TideFault.TheVariants as tide_faults
+use Rattle.hw_repair.specs.declared.plan.Judged.TheVariants.{WholeDay, FromNow}
+use Rattle.hw_repair.specs.declared.plan.Wish.TheVariants.{Kept, Planned, New}
+use Rattle.hw_repair.specs.Wishes.{PlanParts}
 use Rattle.hw_report.specs.declared.report.Head.TheVariants.{Optimal, Infeasible, Unfinished, Memory}
 use Rattle.hw_report.specs.declared.report.RefusedWord.TheVariants.{Form, Check}
 use Rattle.hw_report.specs.Reports.{by_number, by_name, solved, checked, demo, bad_words, bad_flat, bad_json, bad_field, bad_tides, refused, read_fault, too_long, no_memory, bad_text, clashed, met, spent_step, clash_holds, parts_told, part_told, open_part, after, audit_end}
@@ -180,34 +183,47 @@ too_many_bytes = refl
 pub want_of_memory : report_text no_memory ≡ codes "memory\n"
 want_of_memory = refl
 
-pub a_repair : report_text (solved (Optimal 228_000) (flattened (small true) tides) by_number (Some (0 ∷ [])) (Some 1) None) ≡ codes "optimal 228000\nmoved 1\nsail 0 228000 0\nend\n"
+-- ---- repairs
+
+-- a plan of one ship for the slot 1, which sails in slot 0 below
+abbrev one_later : PlanParts
+one_later = record { judged = WholeDay 0; wishes = Planned 1 0 ∷ [] }
+
+abbrev two_ships : PlanParts
+two_ships = record { judged = WholeDay 0; wishes = Planned 0 0 ∷ Planned 0 0 ∷ [] }
+
+-- the ship has sailed in slot 0
+abbrev one_gone : PlanParts
+one_gone = record { judged = FromNow 1 []; wishes = Kept 0 ∷ [] }
+
+pub a_repair : report_text (solved (Optimal 228_000) (flattened (small true) tides) by_number (Some (0 ∷ [])) (Some one_later) None) ≡ codes "optimal 228000\nmoved 1\nsail 0 228000 0\nend\n"
 unfolding digits
 a_repair = refl
 
-pub no_repair : report_text (solved Infeasible (flattened (small true) tides) by_number None (Some 0) None) ≡ codes "infeasible\nend\n"
+pub no_repair : report_text (solved Infeasible (flattened (small true) tides) by_number None (Some one_later) None) ≡ codes "infeasible\nend\n"
 no_repair = refl
 
-pub cape_grace_moved : report_text (solved (Optimal 228_000) (flattened (small false) tides) (by_name (small false) tides) (Some (0 ∷ [])) (Some 1) None) ≡ codes "optimal 22800.0\nmoved 1\nsail 0 0 1590 22800.0 Cape Grace\nend\n"
+pub cape_grace_moved : report_text (solved (Optimal 228_000) (flattened (small false) tides) (by_name (small false) tides) (Some (0 ∷ [])) (Some one_later) None) ≡ codes "optimal 22800.0\nmoved 1\nsail 0 0 1590 22800.0 Cape Grace\nend\n"
 unfolding digits sail_line
 cape_grace_moved = refl
 
-pub moved_in_tonnes : report_text (checked (verdicts.Unfinished (Some 121)) None (Some 2) (by_name (small true) tides)) ≡ codes "unfinished 4.0 moved 1\n"
+pub moved_in_tonnes : report_text (checked (verdicts.Unfinished (Some 121)) None (Some two_ships) (by_name (small true) tides)) ≡ codes "unfinished 4.0 moved 1\n"
 unfolding digits
 moved_in_tonnes = refl
 
-pub a_repair's_verdict : report_text (checked (verdicts.Optimal 121) None (Some 2) by_number) ≡ codes "optimal 40 moved 1\n"
+pub a_repair's_verdict : report_text (checked (verdicts.Optimal 121) None (Some two_ships) by_number) ≡ codes "optimal 40 moved 1\n"
 unfolding digits
 a_repair's_verdict = refl
 
-pub a_repair's_bound : report_text (checked (verdicts.Unfinished (Some 121)) (Some 152) (Some 2) by_number) ≡ codes "unfinished 40 moved 1 bound 50\n"
+pub a_repair's_bound : report_text (checked (verdicts.Unfinished (Some 121)) (Some 152) (Some two_ships) by_number) ≡ codes "unfinished 40 moved 1 bound 50\n"
 unfolding digits
 a_repair's_bound = refl
 
-pub no_repair_but_a_bound : report_text (checked (verdicts.Unfinished None) (Some 121) (Some 2) (by_name (small true) tides)) ≡ codes "unfinished none bound 4.0\n"
+pub no_repair_but_a_bound : report_text (checked (verdicts.Unfinished None) (Some 121) (Some two_ships) (by_name (small true) tides)) ≡ codes "unfinished none bound 4.0\n"
 unfolding digits
 no_repair_but_a_bound = refl
 
-pub no_repair_shown : report_text (checked verdicts.Infeasible (Some 121) (Some 2) by_number) ≡ codes "infeasible\n"
+pub no_repair_shown : report_text (checked verdicts.Infeasible (Some 121) (Some two_ships) by_number) ≡ codes "infeasible\n"
 no_repair_shown = refl
 
 pub a_bad_plan : report_text (bad_text feeds.Plan 4 (codes "table")) ≡ codes "bad plan 4 table\n"
@@ -268,12 +284,12 @@ pub a_bound_of_none_found : report_text (solved (Unfinished 30) (flattened (smal
 unfolding digits
 a_bound_of_none_found = refl
 
-pub a_bounded_repair : report_text (solved (Unfinished 7) (flattened (small true) tides) by_number (Some (0 ∷ [])) (Some 1) (Some 228_001)) ≡ codes "unfinished 7 best 228000\nbound 228001\nmoved 1\nsail 0 228000 0\nend\n"
+pub a_bounded_repair : report_text (solved (Unfinished 7) (flattened (small true) tides) by_number (Some (0 ∷ [])) (Some one_later) (Some 228_001)) ≡ codes "unfinished 7 best 228000\nbound 228001\nmoved 1\nsail 0 228000 0\nend\n"
 unfolding digits
 a_bounded_repair = refl
 
 -- none moves where there is no timetable
-pub no_timetable_moved : report_text (solved (Unfinished 7) (flattened (small true) tides) by_number None (Some 1) None) ≡ codes "unfinished 7 none\nend\n"
+pub no_timetable_moved : report_text (solved (Unfinished 7) (flattened (small true) tides) by_number None (Some one_later) None) ≡ codes "unfinished 7 none\nend\n"
 unfolding digits
 no_timetable_moved = refl
 
@@ -284,3 +300,24 @@ proved_best = refl
 
 pub proved_infeasible : report_text (solved Infeasible (flattened (small true) tides) by_number None None (Some 50)) ≡ codes "infeasible\nend\n"
 proved_infeasible = refl
+
+-- ---- plans that know the time
+
+-- what has sailed isn't counted
+pub cape_grace_is_gone : report_text (solved (Unfinished 7) (flattened (small false) tides) (by_name (small false) tides) (Some (0 ∷ [])) (Some one_gone) None) ≡ codes "unfinished 7 best 0.0\nmoved 0\ngone 0 0 Cape Grace\nend\n"
+unfolding digits
+cape_grace_is_gone = refl
+
+pub gone_by_number : report_text (solved (Unfinished 7) (flattened (small false) tides) by_number (Some (0 ∷ [])) (Some one_gone) None) ≡ codes "unfinished 7 best 0\nmoved 0\ngone 0 0\nend\n"
+unfolding digits
+gone_by_number = refl
+
+-- by a plan of the whole day it sails
+pub kept_by_number : report_text (solved (Optimal 228_000) (flattened (small false) tides) by_number (Some (0 ∷ [])) (Some (record { judged = WholeDay 0; wishes = Kept 0 ∷ [] })) None) ≡ codes "optimal 228000\nmoved 0\nsail 0 228000 0\nend\n"
+unfolding digits
+kept_by_number = refl
+
+-- a ship that was never published isn't moved: two ships and none counted
+pub never_moved : report_text (checked (verdicts.Unfinished (Some 120)) None (Some (record { judged = FromNow 0 []; wishes = New 0 ∷ New 0 ∷ [] })) by_number) ≡ codes "unfinished 40 moved 0\n"
+unfolding digits
+never_moved = refl

@@ -1,5 +1,5 @@
 -- The lines of reports.
-use Rattle.std.specs.Prelude.{ℕ, ◌+◌, ◌-◌, ◌*◌, ◌/◌, ◌%◌, List, [], ◌∷◌, ◌++◌, Option, Some, None, codes, decimal, unwrap_or, slice_get, if◌then◌else◌, nat_le, pos}
+use Rattle.std.specs.Prelude.{ℕ, ◌+◌, ◌*◌, List, [], ◌∷◌, ◌++◌, Option, Some, None, codes, decimal, unwrap_or, slice_get, if◌then◌else◌, nat_le, pos}
 use Rattle.std.specs.Option.{option_map_or}
 use Rattle.std.specs.List.{concat}
 use Rattle.hw_model.specs.Problem.{Problem, stays}
@@ -11,9 +11,12 @@ use Rattle.hw_cert_lines.specs.declared.check.Verdict.{Verdict}
 use Rattle.hw_cert_lines.specs.declared.check.Verdict.TheVariants as verdicts
 use Rattle.hw_port_model.specs.Numbers.{whole, horizon_of}
 use Rattle.hw_port_model.specs.Drafts.{sailing, value}
+use Rattle.hw_repair.specs.Repaired.{own_moved}
+use Rattle.hw_repair.specs.Wishes.{PlanParts, moved}
 use Rattle.hw_report.specs.declared.report.Head.{Head}
 use Rattle.hw_report.specs.declared.report.Head.TheVariants.{Optimal, Infeasible, Unfinished, Memory}
 use Rattle.hw_report.specs.Pieces.{tenths}
+use Rattle.hw_report.specs.Plans.{own_worth, is_gone_by}
 use Rattle.hw_report.specs.Reports.{Naming, by_number, by_name}
 
 -- a label, a number and the end of the line
@@ -29,35 +32,30 @@ cargo_text (by_name p h) c = tenths c
 abbrev pub cargo_line : List ℕ → Naming → ℕ → List ℕ
 cargo_line label names c = concat (label ∷ cargo_text names c ∷ codes "\n" ∷ [])
 
--- the problem's own cargo for a cargo that a certificate speaks of: of a plan's repair for this many ships a part of it
-abbrev pub certificate_own_cargo : Option ℕ → ℕ → ℕ
-certificate_own_cargo None c = c
-certificate_own_cargo (Some ships) c = c / (ships + 1)
-
 -- how many ships a plan's repair moves, for which the rest of its cargo stands
-abbrev pub moved_text : Option ℕ → ℕ → List ℕ
+abbrev pub moved_text : Option PlanParts → ℕ → List ℕ
 moved_text None c = []
-moved_text (Some ships) c = concat (codes " moved " ∷ decimal (ships - c % (ships + 1)) ∷ [])
+moved_text (Some plan) c = concat (codes " moved " ∷ decimal (own_moved plan c) ∷ [])
 
 -- the cargo of the best timetable so far, if there is one, and of a repair how many ships that moves
-abbrev pub best_text : Naming → Option ℕ → Option ℕ → List ℕ
-best_text names ships None = codes "none"
-best_text names ships (Some c) = concat (cargo_text names (certificate_own_cargo ships c) ∷ moved_text ships c ∷ [])
+abbrev pub best_text : Naming → Option PlanParts → Option ℕ → List ℕ
+best_text names plan None = codes "none"
+best_text names plan (Some c) = concat (cargo_text names (own_worth plan c) ∷ moved_text plan c ∷ [])
 
 -- a bound on the cargo of every permitted timetable, if there is one
-abbrev pub most_text : Naming → Option ℕ → Option ℕ → List ℕ
-most_text names ships None = []
-most_text names ships (Some bound) = concat (codes " bound " ∷ cargo_text names (certificate_own_cargo ships bound) ∷ [])
+abbrev pub most_text : Naming → Option PlanParts → Option ℕ → List ℕ
+most_text names plan None = []
+most_text names plan (Some bound) = concat (codes " bound " ∷ cargo_text names (own_worth plan bound) ∷ [])
 
 -- a label, the best cargo, and a bound
-abbrev pub shown_line : List ℕ → Naming → Option ℕ → Option ℕ → Option ℕ → List ℕ
-shown_line label names ships best bound = concat (label ∷ best_text names ships best ∷ most_text names ships bound ∷ codes "\n" ∷ [])
+abbrev pub shown_line : List ℕ → Naming → Option PlanParts → Option ℕ → Option ℕ → List ℕ
+shown_line label names plan best bound = concat (label ∷ best_text names plan best ∷ most_text names plan bound ∷ codes "\n" ∷ [])
 
--- what valid lines show, of a repair for this many ships, and after an unfinished verdict the last bound among them, if there is one
-abbrev pub checked_text : Naming → Verdict → Option ℕ → Option ℕ → List ℕ
-checked_text names (verdicts.Optimal c) bound ships = shown_line (codes "optimal ") names ships (Some c) None
-checked_text names verdicts.Infeasible bound ships = codes "infeasible\n"
-checked_text names (verdicts.Unfinished best) bound ships = shown_line (codes "unfinished ") names ships best bound
+-- what valid lines show, of a problem or of the repair of its plan, and after an unfinished verdict the last bound among them, if there is one
+abbrev pub checked_text : Naming → Verdict → Option ℕ → Option PlanParts → List ℕ
+checked_text names (verdicts.Optimal c) bound plan = shown_line (codes "optimal ") names plan (Some c) None
+checked_text names verdicts.Infeasible bound plan = codes "infeasible\n"
+checked_text names (verdicts.Unfinished best) bound plan = shown_line (codes "unfinished ") names plan best bound
 
 -- the cargo of the best timetable so far, if there is one
 abbrev pub so_far : Naming → Option ℕ → List ℕ
@@ -109,20 +107,29 @@ abbrev pub ship_line : Problem → Naming → ℕ → ℕ → List ℕ
 ship_line f by_number ship slot = number_line f ship slot
 ship_line f (by_name p h) ship slot = named_ship_line p h ship slot
 
+-- a ship that has sailed and its slot, by number or by a port's names with the minute in which that begins
+abbrev pub gone_line : Naming → ℕ → ℕ → List ℕ
+gone_line by_number ship slot = concat (codes "gone " ∷ decimal slot ∷ codes " " ∷ decimal ship ∷ codes "\n" ∷ [])
+gone_line (by_name p h) ship slot = concat (codes "gone " ∷ decimal slot ∷ codes " " ∷ decimal (slot * whole p.slot_minutes) ∷ codes " " ∷ name_in p.ships ship ∷ codes "\n" ∷ [])
+
+-- a ship's line, or that it has sailed by the plan
+abbrev pub told_line : Problem → Naming → Option PlanParts → ℕ → ℕ → List ℕ
+told_line f names plan ship slot = if is_gone_by plan ship then gone_line names ship slot else ship_line f names ship slot
+
 -- the lines of the ships from this one on
-abbrev pub ship_lines : Problem → Naming → ℕ → List ℕ → List ℕ
-ship_lines f names ship [] = []
-ship_lines f names ship (slot ∷ slots) = ship_line f names ship slot ++ ship_lines f names (ship + 1) slots
+abbrev pub ship_lines : Problem → Naming → Option PlanParts → ℕ → List ℕ → List ℕ
+ship_lines f names plan ship [] = []
+ship_lines f names plan ship (slot ∷ slots) = told_line f names plan ship slot ++ ship_lines f names plan (ship + 1) slots
 
--- how many ships a timetable moves, if that is told
-abbrev pub moved_line : Option ℕ → List ℕ
-moved_line None = []
-moved_line (Some moved) = numbered (codes "moved ") moved
+-- how many ships the timetable of a repair moves
+abbrev pub moved_line : Option PlanParts → List ℕ → List ℕ
+moved_line None table = []
+moved_line (Some plan) table = numbered (codes "moved ") (moved plan table)
 
--- how many ships a timetable moves, if that is told, the lines of its ships, and the last line; or the last line alone
-abbrev pub table_text : Problem → Naming → Option (List ℕ) → Option ℕ → List ℕ
-table_text f names None moved = codes "end\n"
-table_text f names (Some table) moved = concat (moved_line moved ∷ ship_lines f names 0 table ∷ codes "end\n" ∷ [])
+-- of a repair how many ships a timetable moves, the lines of its ships, and the last line; or the last line alone
+abbrev pub table_text : Problem → Naming → Option PlanParts → Option (List ℕ) → List ℕ
+table_text f names plan None = codes "end\n"
+table_text f names plan (Some table) = concat (moved_line plan table ∷ ship_lines f names plan 0 table ∷ codes "end\n" ∷ [])
 
 -- numbers, each with a space before it
 abbrev pub numbers_text : List ℕ → List ℕ

@@ -1,7 +1,8 @@
 -- Which reports can be printed.
-use Rattle.std.specs.Prelude.{◌≡◌, List, ℕ, length, Option, Some, None, ⊤}
+use Rattle.std.specs.Prelude.{◌≡◌, List, ℕ, length, Option, Some, None, IfSome, ⊤}
 use Rattle.hw_model.specs.Problem.{Problem, IsTimetable}
 use Rattle.hw_port_model.specs.Flattened.{flattened}
+use Rattle.hw_repair.specs.Wishes.{PlanFits}
 use Rattle.hw_report.specs.Reports.{Naming, by_number, by_name, Report, solved}
 
 -- the timetable, if there is one, is one of the problem
@@ -14,7 +15,7 @@ abbrev pub AreNamesOf : Problem → Naming → Type 0
 AreNamesOf f by_number = ⊤
 AreNamesOf f (by_name p h) = (f ≡ flattened p h) × (h.columns ≡ length p.waypoints)
 
--- a report's timetable is one of its problem, and the names are of the port whose problem that is
+-- a report's timetable is one of its problem, the names are of the port whose problem that is, and the plan, if there is one, fits the problem
 abbrev pub CanPrint : Report → Type 0
-CanPrint (solved head f names table moved bound) = IsTableOfProblem f table × AreNamesOf f names
+CanPrint (solved head f names table plan bound) = IsTableOfProblem f table × AreNamesOf f names × IfSome plan (PlanFits f)
 CanPrint _ = ⊤

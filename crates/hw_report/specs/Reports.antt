@@ -4,6 +4,7 @@ use Rattle.hw_model.specs.Problem.{Problem}
 use Rattle.hw_desk.specs.declared.desk.Feed.{Feed}
 use Rattle.hw_flat.specs.declared.fault.FlatWord.{FlatWord}
 use Rattle.hw_cert_lines.specs.declared.check.Verdict.{Verdict}
+use Rattle.hw_repair.specs.Wishes.{PlanParts}
 use Rattle.hw_port.specs.declared.fault.PortFault.{PortFault}
 use Rattle.hw_port.specs.Whole.{Parts}
 use Rattle.hw_tide.specs.declared.fault.TideFault.{TideFault}
@@ -18,10 +19,10 @@ pub data Naming : Type 0 where
 
 -- what is reported: the outcome of a command, or why it has none
 pub data Report : Type 0 where
-  -- a problem that was searched, with its timetable or none; of a plan's repair how many ships that moves; and the last bound of its certificate. The head of a repair has the problem's own cargo
-  solved : Head → Problem → Naming → Option (List ℕ) → Option ℕ → Option ℕ → Report
-  -- what a certificate shows, with the last bound among its lines; of a plan's repair, for this many ships
-  checked : Verdict → Option ℕ → Option ℕ → Naming → Report
+  -- a problem that was searched, with its timetable or none; the plan that was repaired, if one was; and the last bound of the certificate. The head and the bound of a repair are those for which the certificate's stand
+  solved : Head → Problem → Naming → Option (List ℕ) → Option PlanParts → Option ℕ → Report
+  -- what a certificate shows, with the last bound among its lines, and the plan of whose repair it does, if there is one
+  checked : Verdict → Option ℕ → Option PlanParts → Naming → Report
   -- a demonstration: how it was solved, its cargo or none, what its certificate shows, and the lemmas of that
   demo : Head → Option ℕ → Verdict → ℕ → Report
   bad_words : ℕ → Report

@@ -2,17 +2,18 @@
 use Rattle.std.specs.Prelude.{ℕ, Bool, true, false, List, [], ◌∷◌, Option, Some, None, codes, decimal, option_and_then}
 use Rattle.std.specs.List.{concat}
 use Rattle.hw_model.specs.Problem.{Problem}
-use Rattle.hw_model.specs.Timetables.{cargo}
 use Rattle.hw_cert_lines.specs.declared.check.CheckWord.TheVariants as checks
 use Rattle.hw_cert_lines.specs.declared.check.Verdict.{Verdict}
 use Rattle.hw_tide.specs.declared.fault.TideFault.{TideFault}
 use Rattle.hw_tide.specs.declared.fault.TideFault.TheVariants as tides
+use Rattle.hw_repair.specs.Wishes.{PlanParts}
 use Rattle.hw_report.specs.declared.report.Head.{Head}
 use Rattle.hw_report.specs.declared.report.Head.TheVariants.{Memory}
 use Rattle.hw_report.specs.declared.report.RefusedWord.{RefusedWord}
 use Rattle.hw_report.specs.declared.report.RefusedWord.TheVariants.{Check}
 use Rattle.hw_report.specs.Reports.{Naming, Report, by_number, solved, checked, demo, bad_words, bad_flat, bad_json, bad_field, bad_tides, refused, read_fault, too_long, no_memory, bad_text, clashed, met, spent_step, clash_holds, parts_told, part_told, open_part, after, audit_end, whole_text, picture}
 use Rattle.hw_report.specs.Words.{feed_text, flat_word_text, refused_word_text}
+use Rattle.hw_report.specs.Plans.{told_cargo}
 use Rattle.hw_port.specs.Places.{path_text, word_text}
 use Rattle.hw_report.specs.Lines.{numbered, checked_text, head_text, bound_text, table_text, numbers_text, reported_drop_lines, broken_text}
 
@@ -47,8 +48,8 @@ demo_text Memory best verdict lemmas = codes "memory\n"
 demo_text head best verdict lemmas = summary_text head best verdict lemmas
 
 -- what a search found: the head line, the bound, and the timetable's lines
-abbrev pub solved_text : Problem → Naming → Head → Option (List ℕ) → Option ℕ → Option ℕ → List ℕ
-solved_text f names head table moved bound = concat (head_text names head (option_and_then (cargo f) table) ∷ bound_text names head bound ∷ table_text f names table moved ∷ [])
+abbrev pub solved_text : Problem → Naming → Head → Option (List ℕ) → Option PlanParts → Option ℕ → List ℕ
+solved_text f names head table plan bound = concat (head_text names head (option_and_then (told_cargo f plan) table) ∷ bound_text names head bound ∷ table_text f names plan table ∷ [])
 
 -- the end of the line on a part
 abbrev pub part_word : Bool → List ℕ
@@ -57,8 +58,8 @@ part_word false = codes " open\n"
 
 -- the whole text of a report, by its kind
 abbrev pub report_text : Report → List ℕ
-report_text (solved head f names table moved bound) = solved_text f names head table moved bound
-report_text (checked verdict bound ships names) = checked_text names verdict bound ships
+report_text (solved head f names table plan bound) = solved_text f names head table plan bound
+report_text (checked verdict bound plan names) = checked_text names verdict bound plan
 report_text (demo head best verdict lemmas) = demo_text head best verdict lemmas
 report_text (bad_words place) = numbered (codes "words ") place
 report_text (bad_flat number word) = concat (codes "bad flat " ∷ decimal number ∷ codes " " ∷ flat_word_text word ∷ codes "\n" ∷ [])

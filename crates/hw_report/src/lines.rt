@@ -2,21 +2,20 @@
 
 ghost use Rattle.std.specs.Prelude.{◌≡◌, ◌≤◌, ◌<◌, ◌*◌, ◌∷◌, [], length, pos, unwrap_or, false, nat_le, codes};
 ghost use Rattle.std.specs.List.{concat};
-ghost use Rattle.hw_model.specs.Problem.{IsTimetable};
 ghost use Rattle.hw_port.specs.Kept.{Within};
 ghost use Rattle.hw_port_model.specs.Drafts.{sailing as sailing_draft};
 ghost use Rattle.hw_port_model.specs.Numbers.{whole, horizon_of};
-ghost use Rattle.hw_report.specs.Lines.{numbered, cargo_line, cargo_text, so_far, unfinished_text, head_text, bound_text, moved_line, number_line, name_in, sail_line, sailing_line, named_ship_line, ship_line, ship_lines, table_text};
+ghost use Rattle.hw_report.specs.Lines.{numbered, cargo_line, cargo_text, so_far, unfinished_text, head_text, bound_text, number_line, name_in, sail_line, sailing_line, named_ship_line, ship_line};
 ghost use Rattle.hw_report.specs.Pieces.{piece_text};
-ghost use Rattle.hw_report.specs.Printing.{AreNamesOf, IsTableOfProblem};
+ghost use Rattle.hw_report.specs.Printing.{AreNamesOf};
 ghost use Rattle.hw_desk.specs.Writers.{Puts};
-ghost use Rattle.hw_report.specs.Seen.{names_seen, table_seen};
+ghost use Rattle.hw_report.specs.Seen.{names_seen};
 
 use crate::piece::{Piece, put_pieces};
 use crate::report::{Head, Names};
 use hw_desk::Writer;
 use hw_draft::{sailing, value};
-use hw_flat::{Flat, ShipId, Slot, Timetable};
+use hw_flat::{Flat, ShipId, Slot};
 use hw_model::MOST_SLOTS;
 use hw_port::{Port, Ship};
 use hw_tide::Tide;
@@ -230,7 +229,7 @@ fn put_name_line<W: Writer>(out: &mut W, port: &Port, tide: &Tide, ship: ShipId,
 }
 
 /// Puts a ship's line.
-fn put_ship<W: Writer>(out: &mut W, flat: &Flat, names: Names, ship: ShipId, slot: Slot)
+pub fn put_ship<W: Writer>(out: &mut W, flat: &Flat, names: Names, ship: ShipId, slot: Slot)
     requires ship_in { ship < flat.now.ships }
     requires slot_in { slot < flat.now.slots }
     requires names { AreNamesOf flat.now (names_seen names) }
@@ -240,43 +239,4 @@ fn put_ship<W: Writer>(out: &mut W, flat: &Flat, names: Names, ship: ShipId, slo
         Names::Flat => put_number_line(out, flat, ship, slot),
         Names::Port { port, tide } => put_name_line(out, port, tide, ship, slot),
     }
-}
-
-/// Puts a line for each ship.
-fn put_ships<W: Writer>(out: &mut W, flat: &Flat, names: Names, table: &Timetable)
-    requires table { IsTimetable flat.now table.now }
-    requires names { AreNamesOf flat.now (names_seen names) }
-    ensures { Puts (ship_lines flat.now (names_seen names.entry) 0 table.now) (W.state out.old) (W.state out.new) }
-{
-    for ship in 0..table.len() {
-        put_ship(out, flat, names, ship, table.slot(ship));
-    }
-}
-
-/// Puts how many ships a timetable moves, if that is told.
-fn put_moved<W: Writer>(out: &mut W, moved: Option<u32>)
-    ensures { Puts (moved_line moved) (W.state out.old) (W.state out.new) }
-{
-    if let Some(moved) = moved {
-        put_numbered(out, b"moved ", u64::from(moved));
-    }
-}
-
-/// Puts the lines of a timetable, if there is one, and the last line.
-pub fn put_table<W: Writer>(
-    out: &mut W,
-    flat: &Flat,
-    names: Names,
-    table: Option<&Timetable>,
-    moved: Option<u32>,
-)
-    requires table { IsTableOfProblem flat.now (table_seen table) }
-    requires names { AreNamesOf flat.now (names_seen names) }
-    ensures { Puts (table_text flat.now (names_seen names.entry) (table_seen table.entry) moved) (W.state out.old) (W.state out.new) }
-{
-    if let Some(table) = table {
-        put_moved(out, moved);
-        put_ships(out, flat, names, table);
-    }
-    out.put(b"end\n");
 }

@@ -1,13 +1,15 @@
 //! Reports of what was found.
 
-ghost use Rattle.std.specs.Prelude.{◌≡◌};
+ghost use Rattle.std.specs.Prelude.{◌≡◌, IfSome};
 ghost use Rattle.std.specs.Option.{option_and_then};
-ghost use Rattle.hw_model.specs.Timetables.{cargo as cargo_of};
+ghost use Rattle.hw_model.specs.Problem.{IsTimetable};
 ghost use Rattle.hw_desk.specs.Writers.{Puts};
+ghost use Rattle.hw_repair.specs.Wishes.{PlanFits};
 ghost use Rattle.hw_report.specs.Lines.{head_text};
+ghost use Rattle.hw_report.specs.Plans.{told_cargo};
 ghost use Rattle.hw_report.specs.Printing.{IsTableOfProblem};
 ghost use Rattle.hw_report.specs.Reports.{part_told, parts_told, spent_step};
-ghost use Rattle.hw_report.specs.Seen.{names_seen, table_seen};
+ghost use Rattle.hw_report.specs.Seen.{names_seen, plan_seen, table_seen};
 ghost use Rattle.hw_report.specs.Texts.{demo_text, part_word, report_text, summary_text};
 
 use crate::lines::put_head;
@@ -17,15 +19,29 @@ use crate::shown::put_checked;
 use hw_cert::Verdict;
 use hw_desk::Writer;
 use hw_flat::{Flat, Timetable};
+use hw_repair::{Plan, plan_cargo};
 use hw_rules::cargo;
 
+/// What a timetable carries, in tenths of a tonne: by the plan, if there is one.
+fn told_cargo(flat: &Flat, plan: Option<&Plan>, table: &Timetable) -> Option<u64>
+    requires table { IsTimetable flat.now table.now }
+    requires fits { IfSome (plan_seen plan) (PlanFits flat.now) }
+    ensures { result ≡ told_cargo flat.now (plan_seen plan.entry) table.now }
+{
+    match plan {
+        Some(plan) => plan_cargo(flat, plan, table),
+        None => cargo(flat, table),
+    }
+}
+
 /// The cargo of a timetable, if there is one, in tenths of a tonne.
-fn best(flat: &Flat, table: Option<&Timetable>) -> Option<u64>
-    requires { IsTableOfProblem flat.now (table_seen table) }
-    ensures { result ≡ option_and_then (cargo_of flat.now) (table_seen table.entry) }
+fn best(flat: &Flat, plan: Option<&Plan>, table: Option<&Timetable>) -> Option<u64>
+    requires table { IsTableOfProblem flat.now (table_seen table) }
+    requires fits { IfSome (plan_seen plan) (PlanFits flat.now) }
+    ensures { result ≡ option_and_then (told_cargo flat.now (plan_seen plan.entry)) (table_seen table.entry) }
 {
     match table {
-        Some(table) => cargo(flat, table),
+        Some(table) => told_cargo(flat, plan, table),
         None => None,
     }
 }
@@ -35,13 +51,15 @@ pub fn put_outcome<W: Writer>(
     out: &mut W,
     flat: &Flat,
     names: Names,
+    plan: Option<&Plan>,
     head: Head,
     table: Option<&Timetable>,
 )
-    requires { IsTableOfProblem flat.now (table_seen table) }
-    ensures { Puts (head_text (names_seen names.entry) head (option_and_then (cargo_of flat.now) (table_seen table.entry))) (W.state out.old) (W.state out.new) }
+    requires table { IsTableOfProblem flat.now (table_seen table) }
+    requires fits { IfSome (plan_seen plan) (PlanFits flat.now) }
+    ensures { Puts (head_text (names_seen names.entry) head (option_and_then (told_cargo flat.now (plan_seen plan.entry)) (table_seen table.entry))) (W.state out.old) (W.state out.new) }
 {
-    put_head(out, names, head, best(flat, table));
+    put_head(out, names, head, best(flat, plan, table));
 }
 
 /// Puts a demonstration's summary.

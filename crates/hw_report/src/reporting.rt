@@ -6,7 +6,7 @@ ghost use Rattle.hw_report.specs.Printing.{CanPrint};
 ghost use Rattle.hw_report.specs.Seen.{report_seen};
 ghost use Rattle.hw_report.specs.Texts.{report_text};
 
-use crate::lines::{put_bound, put_numbered, put_table};
+use crate::lines::{put_bound, put_numbered};
 use crate::lists::{put_after, put_clash, put_met};
 use crate::print::{put_demo, put_outcome, put_part, put_parts, put_step};
 use crate::refusals::{
@@ -14,6 +14,7 @@ use crate::refusals::{
 };
 use crate::report::Report;
 use crate::shown::put_checked;
+use crate::tables::put_table;
 use hw_desk::{Desk, DeskFailed, Tray, TrayWriter, Writer};
 
 /// Sends a report. After an error a proper prefix of its text was sent, and nothing more will be.
@@ -38,19 +39,19 @@ fn put_report<W: Writer>(out: &mut W, report: &Report)
             flat,
             names,
             table,
-            moved,
+            plan,
             bound,
         } => {
-            put_outcome(out, flat, names, head, table);
+            put_outcome(out, flat, names, plan, head, table);
             put_bound(out, names, head, bound);
-            put_table(out, flat, names, table, moved);
+            put_table(out, flat, names, plan, table);
         }
         Report::Checked {
             verdict,
             bound,
-            ships,
+            plan,
             names,
-        } => put_checked(out, names, verdict, bound, ships),
+        } => put_checked(out, names, verdict, bound, plan),
         Report::Demo {
             head,
             best,

@@ -23,9 +23,8 @@ use Rattle.hw_command.specs.declared.outcome.CertStop.TheVariants.{Fault, NoMemo
 use Rattle.hw_command.specs.declared.taking.LastTable.{LastTable}
 use Rattle.hw_command.proofs.Begun.{entered_on}
 use Rattle.hw_command.proofs.CertWorks.{cert_works}
-use Rattle.hw_repair.specs.Wishes.{PlanParts}
-use Rattle.hw_subject.specs.Meanings.{IsModelled, judged, repair_ships}
-use Rattle.hw_subject.specs.Reading.{ReadsSubject, plan_in, searched_in}
+use Rattle.hw_subject.specs.Meanings.{IsModelled, judged}
+use Rattle.hw_subject.specs.Reading.{ReadsSubject, searched_in}
 use Rattle.hw_subject.specs.Shown.{Refused, Shown}
 use Rattle.hw_subject.specs.Subjects.{Subject, Topic, topic_subject}
 use Rattle.hw_subject.specs.declared.subject.Given.{Given}
@@ -43,10 +42,6 @@ unread topic new h = ap (λ feed. feed.begun) (h.entered.begins.others Certifica
 -- Proof isn't made yet
 pub unmade : (topic : Topic) {x y : DeskState} {given : Given} → IsNewDesk x → ReadsSubject (topic_subject topic) x y given → (y.trays tray.Proof).made ≡ false
 unmade topic new h = ap (λ trays. (trays tray.Proof).made) h.entered.trays ∙ new.trays tray.Proof
-
--- the number of ships that is told
-pub counted : {s : Subject} {x y : DeskState} {given : Given} → (h : ReadsSubject s x y given) → repair_ships given.flat (plan_in given.repair) ≡ repair_ships (s.problem h.value) (s.plan h.value)
-counted {s = s} {given = given} h = ap (λ (f : Problem). repair_ships f (plan_in given.repair)) h.problem ∙ ap (λ (plan : Option PlanParts). repair_ships (s.problem h.value) plan) h.plan
 
 pub modelled : (topic : Topic) {x y : DeskState} {given : Given} → (h : ReadsSubject (topic_subject topic) x y given) → IsModelled (topic_subject topic) h.value
 modelled topic {x = x} h = subjects_modelled_law topic x.held h.value h.reads

@@ -20,7 +20,7 @@ pub record IsCertless (s : Subject) : Type 0 where
 
 -- why it is refused is what is said after a check
 pub refuses_on : (s : Subject) (most : Version) (cert : List ℕ) (held : List ℕ → Option (List ℕ)) (r : Report) → IsCertless s → s.Refuses held r → Checks s most cert held r
-refuses_on s most cert held (checked w bound ships names) h k = absurd (h.silent held _ k refl)
+refuses_on s most cert held (checked w bound plan names) h k = absurd (h.silent held _ k refl)
 refuses_on s most cert held (refused number word hint) h k = absurd (h.refused held number word hint k)
 refuses_on s most cert held (too_long Certificate) h k = absurd (h.long held k)
 refuses_on s most cert held r h k = k

@@ -109,7 +109,7 @@ known p h = checked Infeasible None None (by_name p h)
 
 -- the port that a report names, or another
 named_in : Report → Harbour → Harbour
-named_in (checked w bound ships (by_name p h)) other = record { port = p; tide = h }
+named_in (checked w bound plan (by_name p h)) other = record { port = p; tide = h }
 named_in r other = other
 
 same_harbour : (v w : Harbour) → known v.port v.tide ≡ known w.port w.tide → v ≡ w

@@ -7,14 +7,15 @@ use Rattle.hw_cert_lines.specs.Tolled.{bound_of}
 use Rattle.hw_cert.specs.declared.version.Version.{Version}
 use Rattle.hw_cert.specs.declared.version.Version.TheVariants.{Two, Three}
 use Rattle.hw_cert.specs.Stream.{CertLines, cert_stream, cert_stream_to}
-use Rattle.hw_report.specs.Reports.{Report, Naming, by_number, checked, refused, too_long}
+use Rattle.hw_repair.specs.Wishes.{PlanParts}
+use Rattle.hw_report.specs.Reports.{Report, by_number, checked, refused, too_long}
 use Rattle.hw_command.specs.Certificates.{cert_outcome_to, report_of, stream_outcome}
 use Rattle.hw_command.specs.Inputs.{NoFlat}
 use Rattle.hw_command.specs.Keeping.{complete_lines}
 use Rattle.hw_command.specs.Values.{IsProblemText}
 use Rattle.hw_command.specs.declared.outcome.CertOutcome.{CertOutcome}
 use Rattle.hw_command.specs.declared.outcome.CertOutcome.TheVariants.{Shows, Wrong, TooLong}
-use Rattle.hw_subject.specs.Meanings.{judged, repair_ships}
+use Rattle.hw_subject.specs.Meanings.{judged}
 use Rattle.hw_subject.specs.Plans.{IsPlanText}
 use Rattle.hw_subject.specs.Subjects.{Subject, topic_subject, flat_subject, repair_of}
 use Rattle.hw_subject.specs.Checks.{Checks}
@@ -30,13 +31,13 @@ pub told_as : (P : List ℕ → Type 0) {o : Option (List ℕ)} (bytes : List �
 told_as P bytes e h = subst (λ (told : Option (List ℕ)). IfSome told P) e h
 
 -- nothing is shown
-of_nothing : (s : Subject) (most : Version) (cert bytes : List ℕ) (held : List ℕ → Option (List ℕ)) (o : CertOutcome) → held cert ≡ Some bytes → (h : Refused s most cert held o) → ReportedBy s held (certified s most bytes) (report_of (s.naming h.value) (cert_bound most (judged s h.value) bytes) (repair_ships (s.problem h.value) (s.plan h.value)) o)
+of_nothing : (s : Subject) (most : Version) (cert bytes : List ℕ) (held : List ℕ → Option (List ℕ)) (o : CertOutcome) → held cert ≡ Some bytes → (h : Refused s most cert held o) → ReportedBy s held (certified s most bytes) (report_of (s.naming h.value) (cert_bound most (judged s h.value) bytes) (s.plan h.value) o)
 of_nothing s most cert bytes held o told h =
     let f = judged s h.value in
-    record { value = h.value; reads = h.reads; report = ap (report_of (s.naming h.value) (cert_bound most f bytes) (repair_ships (s.problem h.value) (s.plan h.value))) (told_as (λ bs. o ≡ cert_outcome_to most f bs) bytes told h.outcome) }
+    record { value = h.value; reads = h.reads; report = ap (report_of (s.naming h.value) (cert_bound most f bytes) (s.plan h.value)) (told_as (λ bs. o ≡ cert_outcome_to most f bs) bytes told h.outcome) }
 
 by_checked : (s : Subject) (most : Version) (cert bytes : List ℕ) (held : List ℕ → Option (List ℕ)) (r : Report) → held cert ≡ Some bytes → (h : Checks s most cert held r) → IsReported s held (certified s most bytes) r
-by_checked s most cert bytes held (checked w bound ships names) told h =
+by_checked s most cert bytes held (checked w bound plan names) told h =
     let f = judged s h.value in
     let lines = told_as (λ bs. cert_stream_to most (shape_of f) bs ≡ complete_lines h.shown.lines) bytes told h.shown.reads in
     let same_bound : bound ≡ cert_bound most f bytes = h.shown.last_bound ∙ sym (ap (λ (read : CertLines). bound_of read.lines) lines) in
@@ -44,7 +45,7 @@ by_checked s most cert bytes held (checked w bound ships names) told h =
     inr (record {
       value = h.value;
       reads = h.reads;
-      report = ap (λ (n : Naming). checked w bound ships n) h.naming ∙ ap (λ (n : Option ℕ). checked w bound n (s.naming h.value)) h.counted ∙ ap (λ (b : Option ℕ). report_of (s.naming h.value) b (repair_ships (s.problem h.value) (s.plan h.value)) (Shows w)) same_bound ∙ ap (report_of (s.naming h.value) (cert_bound most f bytes) (repair_ships (s.problem h.value) (s.plan h.value))) outcome;
+      report = ap (checked w bound plan) h.naming ∙ ap (λ (o : Option PlanParts). checked w bound o (s.naming h.value)) h.planned ∙ ap (λ (b : Option ℕ). report_of (s.naming h.value) b (s.plan h.value) (Shows w)) same_bound ∙ ap (report_of (s.naming h.value) (cert_bound most f bytes) (s.plan h.value)) outcome;
     })
 by_checked s most cert bytes held (refused number word hint) told h = inr (of_nothing s most cert bytes held (Wrong number word hint) told h)
 by_checked s most cert bytes held (too_long Certificate) told h = inr (of_nothing s most cert bytes held TooLong told h)
@@ -60,7 +61,7 @@ pub verified_of : {s : Subject} {held : List ℕ → Option (List ℕ)} {r : Rep
 verified_of {s = s} bytes a same =
     let v = a.value in
     let f = judged s v in
-    record { value = v; reads = a.reads; report = a.report ∙ ap (λ (read : CertLines). report_of (s.naming v) (bound_of read.lines) (repair_ships (s.problem v) (s.plan v)) (stream_outcome f read)) (sym same) }
+    record { value = v; reads = a.reads; report = a.report ∙ ap (λ (read : CertLines). report_of (s.naming v) (bound_of read.lines) (s.plan v) (stream_outcome f read)) (sym same) }
 
 -- ---- of a flat text
 

@@ -11,7 +11,8 @@ use Rattle.hw_cert_lines.specs.Valid.{LineFits, Valid, verdict, verdict_by}
 use Rattle.hw_cert_laws.specs.Laws.{IsBound}
 use Rattle.hw_cert_laws.proofs.Bounded.{bounds}
 use Rattle.hw_cert_laws.proofs.Proved.{says_all, optimal, infeasible}
-use Rattle.hw_subject.specs.Meanings.{IsBoundOf, IsModelled, StandsFor, VerdictSays, judged, own_worth}
+use Rattle.hw_report.specs.Plans.{own_worth}
+use Rattle.hw_subject.specs.Meanings.{IsBoundOf, IsModelled, StandsFor, VerdictSays, judged}
 use Rattle.hw_subject.specs.Subjects.{Subject}
 use Rattle.hw_subject.proofs.Meant.{best_of, bound_of, none_of, stands_for}
 
@@ -48,10 +49,10 @@ last_permitted s v all table m fit valid last = subst (λ (t : Option (List ℕ)
 
 -- ---- the bound
 
-own_bounds : (s : Subject) (v : s.Value) (bound : Option ℕ) → IsModelled s v → IfSome bound (IsBound (judged s v)) → IfSome bound (λ b. IsBoundOf s v (own_worth (s.plan v) (s.problem v).ships b))
+own_bounds : (s : Subject) (v : s.Value) (bound : Option ℕ) → IsModelled s v → IfSome bound (IsBound (judged s v)) → IfSome bound (λ b. IsBoundOf s v (own_worth (s.plan v) b))
 own_bounds s v None m h = tt
 own_bounds s v (Some bound) m h = bound_of s v bound m h
 
 -- what the last bound of valid lines says
-pub bound_says : (s : Subject) (v : s.Value) (all : List Line) (bound : Option ℕ) → IsModelled s v → Valid (judged s v) all → bound ≡ last_bound all → IfSome bound (λ b. IsBoundOf s v (own_worth (s.plan v) (s.problem v).ships b))
+pub bound_says : (s : Subject) (v : s.Value) (all : List Line) (bound : Option ℕ) → IsModelled s v → Valid (judged s v) all → bound ≡ last_bound all → IfSome bound (λ b. IsBoundOf s v (own_worth (s.plan v) b))
 bound_says s v all bound m valid last = own_bounds s v bound m (subst (λ (b : Option ℕ). IfSome b (IsBound (judged s v))) (sym last) (bounds (judged s v) all m.limits valid))

@@ -8,12 +8,13 @@ use Rattle.hw_cert_lines.specs.Tolled.{bound_of}
 use Rattle.hw_cert.specs.declared.version.Version.{Version}
 use Rattle.hw_cert.specs.Laws.{has_form}
 use Rattle.hw_cert.specs.Stream.{cert_stream_to}
+use Rattle.hw_repair.specs.Wishes.{PlanParts}
 use Rattle.hw_report.specs.Reports.{Naming}
 use Rattle.hw_command.specs.Certificates.{cert_outcome_to, report_of}
 use Rattle.hw_command.specs.Keeping.{Keeps}
 use Rattle.hw_command.specs.declared.outcome.CertOutcome.{CertOutcome}
 use Rattle.hw_command.specs.declared.outcome.CertOutcome.TheVariants.{Shows, Wrong, TooLong}
-use Rattle.hw_subject.specs.Meanings.{IsModelled, judged, repair_ships}
+use Rattle.hw_subject.specs.Meanings.{IsModelled, judged}
 use Rattle.hw_subject.specs.Subjects.{Subject}
 use Rattle.hw_subject.proofs.Shown.{bound_says, verdict_says}
 use Rattle.hw_subject.specs.Checks.{Checks}
@@ -40,7 +41,8 @@ shown_of s v most told lines w bound m formed last k = record {
 }
 
 -- what the report of an outcome says
-pub outcome_says : (s : Subject) (v : s.Value) (most : Version) (cert : List ℕ) (held : List ℕ → Option (List ℕ)) (lines : List Line) (names : Naming) (bound ships : Option ℕ) (o : CertOutcome) → s.Reads held v → IsModelled s v → names ≡ s.naming v → ships ≡ repair_ships (s.problem v) (s.plan v) → All (λ line. has_form most line ≡ true) lines → bound ≡ bound_of lines → ReadsOf s v most (held cert) lines o → Checks s most cert held (report_of names bound ships o)
-outcome_says s v most cert held lines names bound ships (Shows w) reads m naming counted formed last k = record { value = v; reads = reads; naming = naming; counted = counted; table = last_table lines; shown = shown_of s v most (held cert) lines w bound m formed last k }
-outcome_says s v most cert held lines names bound ships (Wrong number word hint) reads m naming counted formed last k = record { value = v; reads = reads; outcome = k.comes }
-outcome_says s v most cert held lines names bound ships TooLong reads m naming counted formed last k = record { value = v; reads = reads; outcome = k.comes }
+pub outcome_says : (s : Subject) (v : s.Value) (most : Version) (cert : List ℕ) (held : List ℕ → Option (List ℕ)) (lines : List Line) (names : Naming) (bound : Option ℕ) (plan : Option PlanParts) (o : CertOutcome)
+    → s.Reads held v → IsModelled s v → names ≡ s.naming v → plan ≡ s.plan v → All (λ line. has_form most line ≡ true) lines → bound ≡ bound_of lines → ReadsOf s v most (held cert) lines o → Checks s most cert held (report_of names bound plan o)
+outcome_says s v most cert held lines names bound plan (Shows w) reads m naming planned formed last k = record { value = v; reads = reads; naming = naming; planned = planned; table = last_table lines; shown = shown_of s v most (held cert) lines w bound m formed last k }
+outcome_says s v most cert held lines names bound plan (Wrong number word hint) reads m naming planned formed last k = record { value = v; reads = reads; outcome = k.comes }
+outcome_says s v most cert held lines names bound plan TooLong reads m naming planned formed last k = record { value = v; reads = reads; outcome = k.comes }

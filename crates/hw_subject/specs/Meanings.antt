@@ -2,12 +2,13 @@
 use Rattle.std.specs.Prelude.{◌≡◌, ◌≤◌, ◌↔◌, ℕ, List, Option, Some, None, IfSome, IsSomeAnd, ⊤}
 use Rattle.hw_model.specs.Limits.{IsFlat}
 use Rattle.hw_model.specs.Problem.{Problem}
-use Rattle.hw_model.specs.Timetables.{Permits, cargo}
+use Rattle.hw_model.specs.Timetables.{Permits}
 use Rattle.hw_cert_lines.specs.declared.check.Verdict.{Verdict}
 use Rattle.hw_cert_lines.specs.declared.check.Verdict.TheVariants as verdicts
 use Rattle.hw_report.specs.declared.report.Head.{Head}
 use Rattle.hw_report.specs.declared.report.Head.TheVariants.{Optimal, Infeasible, Unfinished, Memory}
-use Rattle.hw_repair.specs.Repaired.{repaired, own_cargo, own_moved}
+use Rattle.hw_report.specs.Plans.{told_cargo, own_worth}
+use Rattle.hw_repair.specs.Repaired.{repaired, own_moved}
 use Rattle.hw_repair.specs.Wishes.{PlanParts, PlanFits, moved}
 use Rattle.hw_subject.specs.Subjects.{Subject}
 
@@ -27,20 +28,10 @@ abbrev pub moved_by : Option PlanParts → List ℕ → ℕ
 moved_by None table = 0
 moved_by (Some plan) table = moved plan table
 
--- the cargo for which a cargo of the judged problem stands, by the number of ships
-abbrev pub own_worth : Option PlanParts → ℕ → ℕ → ℕ
-own_worth None ships d = d
-own_worth (Some plan) ships d = own_cargo ships d
-
--- the number of moved ships for which it stands
-abbrev pub own_moves : Option PlanParts → ℕ → ℕ → ℕ
-own_moves None ships d = 0
-own_moves (Some plan) ships d = own_moved ships d
-
--- the number of ships, if a plan is repaired
-abbrev pub repair_ships : Problem → Option PlanParts → Option ℕ
-repair_ships f None = None
-repair_ships f (Some plan) = Some f.ships
+-- the number of moved ships for which a cargo of the judged problem stands
+abbrev pub own_moves : Option PlanParts → ℕ → ℕ
+own_moves None d = 0
+own_moves (Some plan) d = own_moved plan d
 
 -- ---- timetables
 
@@ -59,16 +50,16 @@ NoneOf s v = (table : List ℕ) → s.Permits v table → ⊥
 abbrev pub IsBoundOf : (s : Subject) → s.Value → ℕ → Type 0
 IsBoundOf s v bound = (table : List ℕ) (c : ℕ) → s.Permits v table → s.cargo v table ≡ Some c → c ≤ bound
 
--- permitted, and the cargo that is printed, which is that of the reported problem, is what it carries
+-- permitted, and the cargo that is printed, which is that by the reported problem and the plan, is what it carries
 pub record IsPrintedTable (s : Subject) (v : s.Value) (table : List ℕ) : Type 0 where
   pub permitted : s.Permits v table
-  pub carries : (c : ℕ) × (s.cargo v table ≡ Some c) × (cargo (s.problem v) table ≡ Some c)
+  pub carries : (c : ℕ) × (s.cargo v table ≡ Some c) × (told_cargo (s.problem v) (s.plan v) table ≡ Some c)
 
 -- permitted, with the cargo and the number of moved ships for which this cargo of the judged problem stands
 pub record StandsFor (s : Subject) (v : s.Value) (table : List ℕ) (d : ℕ) : Type 0 where
   pub permitted : s.Permits v table
-  pub worth : s.cargo v table ≡ Some (own_worth (s.plan v) (s.problem v).ships d)
-  pub moves : moved_by (s.plan v) table ≡ own_moves (s.plan v) (s.problem v).ships d
+  pub worth : s.cargo v table ≡ Some (own_worth (s.plan v) d)
+  pub moves : moved_by (s.plan v) table ≡ own_moves (s.plan v) d
 
 -- ---- what answers say
 
@@ -83,7 +74,7 @@ HeadSays s v budget most Memory table = ⊤
 -- a verdict on the judged problem with the last timetable or none: that is a best one, with the cargo and the moved ships for which the verdict's number stands; none is permitted; or it has them, and without one there is no number
 abbrev pub VerdictSays : (s : Subject) → s.Value → Verdict → Option (List ℕ) → Type 0
 VerdictSays s v (verdicts.Optimal d) None = ⊥
-VerdictSays s v (verdicts.Optimal d) (Some table) = IsBestOf s v table (own_worth (s.plan v) (s.problem v).ships d) × (moved_by (s.plan v) table ≡ own_moves (s.plan v) (s.problem v).ships d)
+VerdictSays s v (verdicts.Optimal d) (Some table) = IsBestOf s v table (own_worth (s.plan v) d) × (moved_by (s.plan v) table ≡ own_moves (s.plan v) d)
 VerdictSays s v verdicts.Infeasible None = NoneOf s v
 VerdictSays s v verdicts.Infeasible (Some table) = ⊥
 VerdictSays s v (verdicts.Unfinished best) None = best ≡ None
@@ -91,9 +82,10 @@ VerdictSays s v (verdicts.Unfinished best) (Some table) = IsSomeAnd best (Stands
 
 -- ---- why they are true
 
--- the plan fits, the judged problem keeps the limits and permits what the subject permits, which carries by the reported problem what it carries by the subject
+-- the reported problem keeps the limits, the plan fits it, and the judged problem keeps them too and permits what the subject permits, which carries by the reported problem and the plan what it carries by the subject
 pub record IsModelled (s : Subject) (v : s.Value) : Type 0 where
+  pub reported : IsFlat (s.problem v)
   pub fits : IfSome (s.plan v) (PlanFits (s.problem v))
   pub limits : IsFlat (judged s v)
   pub permitted : (table : List ℕ) → (s.Permits v table ↔ Permits (judged s v) table)
-  pub carries : (table : List ℕ) → s.Permits v table → (c : ℕ) × (s.cargo v table ≡ Some c) × (cargo (s.problem v) table ≡ Some c)
+  pub carries : (table : List ℕ) → s.Permits v table → (c : ℕ) × (s.cargo v table ≡ Some c) × (told_cargo (s.problem v) (s.plan v) table ≡ Some c)

@@ -14,7 +14,8 @@ use Rattle.hw_command.specs.Certificates.{cert_outcome_to}
 use Rattle.hw_command.specs.Keeping.{complete_lines}
 use Rattle.hw_command.specs.declared.outcome.CertOutcome.{CertOutcome}
 use Rattle.hw_command.specs.declared.outcome.CertOutcome.TheVariants.{Shows}
-use Rattle.hw_subject.specs.Meanings.{judged, own_worth, IsBoundOf, VerdictSays}
+use Rattle.hw_report.specs.Plans.{own_worth}
+use Rattle.hw_subject.specs.Meanings.{judged, IsBoundOf, VerdictSays}
 use Rattle.hw_subject.specs.Subjects.{Subject}
 
 -- valid lines of the judged problem with this verdict, this last bound and this last timetable, each of the two or none. They have forms of the versions up to this one; if the certificate is told, they are all its lines, and the verdict is its outcome. What is shown is true: the verdict, and that no permitted timetable carries more than the cargo for which the bound stands
@@ -29,7 +30,7 @@ pub record Shown (s : Subject) (v : s.Value) (most : Version) (bytes : Option (L
   pub reads : IfSome bytes (λ bs. cert_stream_to most (shape_of (judged s v)) bs ≡ complete_lines lines)
   pub outcome : IfSome bytes (λ bs. Shows shows ≡ cert_outcome_to most (judged s v) bs)
   pub means : VerdictSays s v shows table
-  pub bounds : IfSome bound (λ b. IsBoundOf s v (own_worth (s.plan v) (s.problem v).ships b))
+  pub bounds : IfSome bound (λ b. IsBoundOf s v (own_worth (s.plan v) b))
 
 -- what is read of the inputs, each where it is told, and the outcome of the certificate, where that is told
 pub record Refused (s : Subject) (most : Version) (cert : List ℕ) (held : List ℕ → Option (List ℕ)) (o : CertOutcome) : Type 0 where

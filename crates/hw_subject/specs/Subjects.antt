@@ -2,6 +2,7 @@
 use Rattle.std.proofs.Common.{Bor}
 use Rattle.std.specs.Prelude.{ℕ, List, [], ◌∷◌, ◌++◌, Option, Some, None, IfSome, slice_get, slice_index}
 use Rattle.hw_model.specs.Limits.{IsFlat}
+use Rattle.hw_model.specs.declared.rule.Step.{Step}
 use Rattle.hw_model.specs.Problem.{Problem}
 use Rattle.hw_model.specs.Timetables.{Permits, cargo}
 use Rattle.hw_desk.specs.declared.desk.Feed.{Feed}
@@ -9,6 +10,7 @@ use Rattle.hw_desk.specs.declared.desk.Feed.TheVariants as feeds
 use Rattle.hw_flat.specs.TextWritten.{IsWritable}
 use Rattle.hw_plan_texts.specs.Fleets.{lessened}
 use Rattle.hw_audit.specs.Laws.{fewer_tugs}
+use Rattle.hw_audit.specs.PortPlans.{PortMeets, port_rest_cargo}
 use Rattle.hw_port.specs.Whole.{Parts}
 use Rattle.hw_tide.specs.Levels.{TideParts}
 use Rattle.hw_port_model.specs.Flattened.{flattened}
@@ -19,7 +21,10 @@ use Rattle.hw_command.specs.Inputs.{NoFlat}
 use Rattle.hw_command.specs.PortInputs.{NoPort}
 use Rattle.hw_command.specs.Scope.{Named, named_feed}
 use Rattle.hw_command.specs.Values.{IsLong, IsProblemText, IsPortOf, FlatGives, PortGives}
-use Rattle.hw_repair.specs.Wishes.{PlanParts, Grants}
+use Rattle.hw_repair.specs.declared.plan.Judged.{Judged}
+use Rattle.hw_repair.specs.declared.plan.Judged.TheVariants.{WholeDay, FromNow}
+use Rattle.hw_repair.specs.declared.plan.Wish.{Wish}
+use Rattle.hw_repair.specs.Wishes.{PlanParts, Grants, KeepsRest, rest_cargo_from}
 use Rattle.hw_subject.specs.Plans.{IsPlanOf, IsWrongLine}
 use Rattle.hw_subject.specs.declared.source.Source.{Source}
 use Rattle.hw_subject.specs.declared.source.Source.TheVariants.{Flat, Port}
@@ -47,6 +52,10 @@ pub record Subject : Type 1 where
   pub Permits : Value → List ℕ → Type 0
   -- what it carries, in tenths of a tonne, or none where a ship can't sail in its slot
   pub cargo : Value → List ℕ → Option ℕ
+  -- a timetable meets a plan that judges from now on, with the tugs that are out and the wishes of all ships
+  pub Meets : ℕ → List Step → List Wish → Value → List ℕ → Type 0
+  -- what the ships carry that aren't gone by such wishes
+  pub rest_cargo : List Wish → Value → List ℕ → Option ℕ
   -- what a report says of inputs that give no value; no other is given
   pub Refuses : (List ℕ → Option (List ℕ)) → Report → Type 0
 
@@ -76,6 +85,8 @@ flat_subject name = record {
   less = λ withdrawn f. lessened withdrawn f;
   Permits = λ f table. Permits f table;
   cargo = λ f table. cargo f table;
+  Meets = λ now out wishes f table. KeepsRest f now out wishes table;
+  rest_cargo = λ wishes f table. rest_cargo_from f wishes 0 table;
   Refuses = λ held r. NoFlat (held name) r;
 }
 
@@ -98,6 +109,8 @@ port_subject instance table = record {
   less = λ withdrawn v. record { port = fewer_tugs withdrawn v.port; tide = v.tide };
   Permits = λ v slots. PortPermits v.port v.tide slots;
   cargo = λ v slots. port_cargo v.port v.tide slots;
+  Meets = λ now out wishes v slots. PortMeets v.port v.tide now out wishes slots;
+  rest_cargo = λ wishes v slots. port_rest_cargo v.port v.tide wishes slots;
   Refuses = λ held r. NoPort (held instance) (held table) r;
 }
 
@@ -113,9 +126,22 @@ pub record ReadsPlanned (s : Subject) (name : List ℕ) (held : List ℕ → Opt
   pub planned : IsPlanOf (held name) (s.problem v.value) v.plan
 
 -- permitted with the tugs that are left, and each ship has its kept slot or a slot from its earliest one on
-pub record MeetsPlan (s : Subject) (v : Planned s) (table : List ℕ) : Type 0 where
-  pub permitted : s.Permits (s.less v.plan.withdrawn v.value) table
-  pub granted : (ship : ℕ) → IfSome (slice_get v.plan.wishes ship) (λ wish. Grants wish (slice_index table ship))
+pub record MeetsWhole (s : Subject) (withdrawn : ℕ) (wishes : List Wish) (v : s.Value) (table : List ℕ) : Type 0 where
+  pub permitted : s.Permits (s.less withdrawn v) table
+  pub granted : (ship : ℕ) → IfSome (slice_get wishes ship) (λ wish. Grants wish (slice_index table ship))
+
+-- a timetable meets a plan of the whole day, or one that judges from now on
+abbrev pub MeetsBy : (s : Subject) → Judged → List Wish → s.Value → List ℕ → Type 0
+MeetsBy s (WholeDay withdrawn) wishes v table = MeetsWhole s withdrawn wishes v table
+MeetsBy s (FromNow now out) wishes v table = s.Meets now out wishes v table
+
+abbrev pub MeetsPlan : (s : Subject) → Planned s → List ℕ → Type 0
+MeetsPlan s v table = MeetsBy s v.plan.judged v.plan.wishes v.value table
+
+-- what it carries by a plan: the cargo of all ships, or from now on of those that aren't gone
+abbrev pub carried_by : (s : Subject) → Judged → List Wish → s.Value → List ℕ → Option ℕ
+carried_by s (WholeDay withdrawn) wishes v table = s.cargo v table
+carried_by s (FromNow now out) wishes v table = s.rest_cargo wishes v table
 
 pub record GivesValue (s : Subject) (held : List ℕ → Option (List ℕ)) : Type 0 where
   pub value : s.Value
@@ -152,7 +178,9 @@ repair_of s name = record {
   plan = λ v. Some v.plan;
   less = λ withdrawn v. record { value = s.less withdrawn v.value; plan = v.plan };
   Permits = MeetsPlan s;
-  cargo = λ v table. s.cargo v.value table;
+  cargo = λ v table. carried_by s v.plan.judged v.plan.wishes v.value table;
+  Meets = λ now out wishes v table. s.Meets now out wishes v.value table;
+  rest_cargo = λ wishes v table. s.rest_cargo wishes v.value table;
   Refuses = NoPlanned s name;
 }
 

@@ -16,7 +16,7 @@ use Rattle.hw_repair.specs.Text.{plan_text}
 use Rattle.hw_repair.specs.Words.{plan_word_text}
 use Rattle.hw_repair.specs.declared.fault.PlanWord.{PlanWord}
 use Rattle.hw_repair.specs.Wishes.{PlanParts}
-use Rattle.hw_subject.specs.Meanings.{repaired_problem, repair_ships}
+use Rattle.hw_subject.specs.Meanings.{repaired_problem}
 
 -- the bound of the last bound line that a certificate's bytes read as, or none
 abbrev pub cert_bound : Version → Problem → List ℕ → Option ℕ
@@ -28,7 +28,7 @@ cert_table f bytes = last_table (cert_stream_to Three (shape_of f) bytes).lines
 
 -- a certificate of a problem in these names, or of the problem's repair by a plan
 abbrev pub cert_report : Version → Naming → Problem → Option PlanParts → List ℕ → Report
-cert_report most names f plan bytes = report_of names (cert_bound most (repaired_problem f plan) bytes) (repair_ships f plan) (cert_outcome_to most (repaired_problem f plan) bytes)
+cert_report most names f plan bytes = report_of names (cert_bound most (repaired_problem f plan) bytes) plan (cert_outcome_to most (repaired_problem f plan) bytes)
 
 -- a certificate of what a plan of the problem reads as
 abbrev pub planned_report : Version → Naming → Problem → Result PlanParts (MalformedLine PlanWord) → List ℕ → Report

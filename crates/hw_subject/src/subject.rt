@@ -3,8 +3,7 @@
 ghost use Rattle.std.specs.Prelude.{◌≡◌, IfErr, IfOk, None};
 ghost use Rattle.hw_desk.specs.State.{IsNewDesk};
 ghost use Rattle.hw_report.specs.Printing.{CanPrint};
-ghost use Rattle.hw_report.specs.Seen.{names_seen, report_seen};
-ghost use Rattle.hw_subject.specs.Meanings.{repair_ships};
+ghost use Rattle.hw_report.specs.Seen.{names_seen, plan_seen, report_seen};
 ghost use Rattle.hw_subject.specs.Reading.{ReadsSubject, StopsAtSubject, naming_of, plan_in, searched_in};
 ghost use Rattle.hw_subject.specs.Subjects.{subject_of_source, subject_of};
 
@@ -13,6 +12,7 @@ use crate::source::{Named, Source};
 use hw_command::{PortProblem, read_flat, read_port_problem};
 use hw_desk::Desk;
 use hw_flat::Flat;
+use hw_repair::Plan;
 use hw_report::{Names, Report};
 use std::alloc::Global;
 
@@ -54,12 +54,12 @@ impl Given {
         }
     }
 
-    /// The number of ships, 1 to 40, if a plan is repaired.
-    pub fn repaired_ships(&self) -> Option<u32>
-        ensures { result ≡ repair_ships self.now.flat (plan_in self.now.repair) }
+    /// The plan, if one is repaired.
+    pub fn plan(&self) -> Option<&Plan>
+        ensures { plan_seen result ≡ plan_in self.now.repair }
     {
         match &self.repair {
-            Some(_) => Some(self.flat.shape().ships),
+            Some(repair) => Some(&repair.plan),
             None => None,
         }
     }

@@ -1,23 +1,38 @@
 -- A subject's words are those of a flat problem, of a port, and of a plan.
-use Rattle.std.proofs.Common.{ℕ, List, arith}
+use Rattle.std.proofs.Common.{◌≡◌, ◌∙◌, ℕ, List, Option, refl, sym, arith}
 use Rattle.hw_model.specs.Problem.{Problem}
 use Rattle.hw_port.specs.Whole.{Parts}
 use Rattle.hw_tide.specs.Levels.{TideParts}
-use Rattle.hw_repair.specs.Wishes.{PlanParts, PermitsPlan}
-use Rattle.hw_subject.specs.Subjects.{MeetsPlan, flat_subject, port_subject}
-use Rattle.hw_subject_laws.specs.Laws.{PortPermitsPlan, SameWords, planned, port_planned}
+use Rattle.hw_repair.specs.declared.plan.Judged.{Judged}
+use Rattle.hw_repair.specs.declared.plan.Judged.TheVariants.{WholeDay, FromNow}
+use Rattle.hw_repair.specs.declared.plan.Wish.{Wish}
+use Rattle.hw_repair.specs.Wishes.{KeepsBy, cargo_by}
+use Rattle.hw_subject.specs.Subjects.{MeetsBy, carried_by, flat_subject, port_subject}
+use Rattle.hw_subject_laws.specs.Laws.{PortPermitsBy, SameWords, harbour, port_cargo_by}
 
-to_plan : {name : List ℕ} {f : Problem} {parts : PlanParts} (table : List ℕ) → MeetsPlan (flat_subject name) (planned name f parts) table → PermitsPlan f parts table
-to_plan table h = record { permitted = h.permitted; granted = h.granted }
+-- two words for what meets a plan and for what is carried by it
+record SameWord (Meets Keeps : List ℕ → Type 0) (carried cargo : List ℕ → Option ℕ) : Type 0 where
+  pub to : (table : List ℕ) → Meets table → Keeps table
+  pub from : (table : List ℕ) → Keeps table → Meets table
+  pub carries : (table : List ℕ) → carried table ≡ cargo table
 
-from_plan : {name : List ℕ} {f : Problem} {parts : PlanParts} (table : List ℕ) → PermitsPlan f parts table → MeetsPlan (flat_subject name) (planned name f parts) table
-from_plan table h = record { permitted = h.permitted; granted = h.granted }
+flat_words : (name : List ℕ) (f : Problem) (judged : Judged) (wishes : List Wish)
+    → SameWord (MeetsBy (flat_subject name) judged wishes f) (KeepsBy judged f wishes) (carried_by (flat_subject name) judged wishes f) (cargo_by judged f wishes)
+flat_words name f (WholeDay withdrawn) wishes = record {
+  to = λ table h. record { permitted = h.permitted; granted = h.granted };
+  from = λ table h. record { permitted = h.permitted; granted = h.granted };
+  carries = λ table. refl;
+}
+flat_words name f (FromNow now out) wishes = record { to = λ table h. h; from = λ table h. h; carries = λ table. refl }
 
-to_port_plan : {instance tides : List ℕ} {p : Parts} {t : TideParts} {parts : PlanParts} (table : List ℕ) → MeetsPlan (port_subject instance tides) (port_planned instance tides p t parts) table → PortPermitsPlan p t parts table
-to_port_plan table h = record { permitted = h.permitted; granted = h.granted }
-
-from_port_plan : {instance tides : List ℕ} {p : Parts} {t : TideParts} {parts : PlanParts} (table : List ℕ) → PortPermitsPlan p t parts table → MeetsPlan (port_subject instance tides) (port_planned instance tides p t parts) table
-from_port_plan table h = record { permitted = h.permitted; granted = h.granted }
+port_words : (instance tides : List ℕ) (p : Parts) (t : TideParts) (judged : Judged) (wishes : List Wish)
+    → let s = port_subject instance tides in SameWord (MeetsBy s judged wishes (harbour p t)) (PortPermitsBy judged p t wishes) (carried_by s judged wishes (harbour p t)) (port_cargo_by judged p t wishes)
+port_words instance tides p t (WholeDay withdrawn) wishes = record {
+  to = λ table h. record { permitted = h.permitted; granted = h.granted };
+  from = λ table h. record { permitted = h.permitted; granted = h.granted };
+  carries = λ table. refl;
+}
+port_words instance tides p t (FromNow now out) wishes = record { to = λ table h. h; from = λ table h. h; carries = λ table. refl }
 
 pub same_words_law : SameWords
 same_words_law = record {
@@ -33,16 +48,36 @@ same_words_law = record {
   );
   port_none = λ instance tides p t. (λ h. h, λ h. h);
   port_bound = λ instance tides p t bound. (λ h. h, λ h. h);
-  repair_best = λ name plan f parts table c. (
-    λ h. record { meets = to_plan {name = name} table h.permitted; worth = h.worth; greatest = λ other d m e. h.greatest other d (from_plan {name = name} other m) e; fewest = λ other m e. h.fewest other (from_plan {name = name} other m) e },
-    λ h. record { permitted = from_plan {name = name} table h.meets; worth = h.worth; greatest = λ other d m e. h.greatest other d (to_plan {name = name} other m) e; fewest = λ other m e. h.fewest other (to_plan {name = name} other m) e },
-  );
-  repair_none = λ name plan f parts. (
-    λ h table m. h table (from_plan {name = name} table m),
-    λ h table m. h table (to_plan {name = name} table m),
-  );
-  port_repair_best = λ instance tides plan p t parts table c. (
-    λ h. record { meets = to_port_plan {instance = instance} {tides = tides} table h.permitted; worth = h.worth; greatest = λ other d m e. h.greatest other d (from_port_plan {instance = instance} {tides = tides} other m) e; fewest = λ other m e. h.fewest other (from_port_plan {instance = instance} {tides = tides} other m) e },
-    λ h. record { permitted = from_port_plan {instance = instance} {tides = tides} table h.meets; worth = h.worth; greatest = λ other d m e. h.greatest other d (to_port_plan {instance = instance} {tides = tides} other m) e; fewest = λ other m e. h.fewest other (to_port_plan {instance = instance} {tides = tides} other m) e },
-  );
+  repair_best = λ name plan f parts table c.
+      let same = flat_words name f parts.judged parts.wishes in (
+        λ h. record {
+          meets = same.to table h.permitted;
+          worth = sym (same.carries table) ∙ h.worth;
+          greatest = λ other d m e. h.greatest other d (same.from other m) (same.carries other ∙ e);
+          fewest = λ other m e. h.fewest other (same.from other m) (same.carries other ∙ e);
+        },
+        λ h. record {
+          permitted = same.from table h.meets;
+          worth = same.carries table ∙ h.worth;
+          greatest = λ other d m e. h.greatest other d (same.to other m) (sym (same.carries other) ∙ e);
+          fewest = λ other m e. h.fewest other (same.to other m) (sym (same.carries other) ∙ e);
+        },
+      );
+  repair_none = λ name plan f parts.
+      let same = flat_words name f parts.judged parts.wishes in (λ h table m. h table (same.from table m), λ h table m. h table (same.to table m));
+  port_repair_best = λ instance tides plan p t parts table c.
+      let same = port_words instance tides p t parts.judged parts.wishes in (
+        λ h. record {
+          meets = same.to table h.permitted;
+          worth = sym (same.carries table) ∙ h.worth;
+          greatest = λ other d m e. h.greatest other d (same.from other m) (same.carries other ∙ e);
+          fewest = λ other m e. h.fewest other (same.from other m) (same.carries other ∙ e);
+        },
+        λ h. record {
+          permitted = same.from table h.meets;
+          worth = same.carries table ∙ h.worth;
+          greatest = λ other d m e. h.greatest other d (same.to other m) (sym (same.carries other) ∙ e);
+          fewest = λ other m e. h.fewest other (same.to other m) (sym (same.carries other) ∙ e);
+        },
+      );
 }

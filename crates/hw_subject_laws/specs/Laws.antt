@@ -8,6 +8,10 @@ use Rattle.hw_tide.specs.Levels.{TideParts}
 use Rattle.hw_port_model.specs.Permitted.{PortPermits, port_cargo, IsPortBest, NonePortPermitted}
 use Rattle.hw_subject_laws.specs.Ports.{IsPortBound}
 use Rattle.hw_audit.specs.Laws.{fewer_tugs}
+use Rattle.hw_audit.specs.PortPlans.{PortMeets, port_rest_cargo}
+use Rattle.hw_repair.specs.declared.plan.Judged.{Judged}
+use Rattle.hw_repair.specs.declared.plan.Judged.TheVariants.{WholeDay, FromNow}
+use Rattle.hw_repair.specs.declared.plan.Wish.{Wish}
 use Rattle.hw_repair.specs.Repaired.{IsBestRepair, NoRepair}
 use Rattle.hw_repair.specs.Wishes.{PlanParts, Grants, moved}
 use Rattle.hw_subject.specs.Meanings.{IsBestOf, NoneOf, IsBoundOf}
@@ -26,16 +30,32 @@ abbrev pub port_planned : (instance tides : List ℕ) → Parts → TideParts �
 port_planned instance tides p h plan = record { value = harbour p h; plan = plan }
 
 -- permitted by the port with the tugs that are left, and each ship has its kept slot or a slot from its earliest one on
-pub record PortPermitsPlan (p : Parts) (h : TideParts) (plan : PlanParts) (table : List ℕ) : Type 0 where
-  pub permitted : PortPermits (fewer_tugs plan.withdrawn p) h table
-  pub granted : (ship : ℕ) → IfSome (slice_get plan.wishes ship) (λ wish. Grants wish (slice_index table ship))
+pub record PortPermitsWhole (p : Parts) (h : TideParts) (withdrawn : ℕ) (wishes : List Wish) (table : List ℕ) : Type 0 where
+  pub permitted : PortPermits (fewer_tugs withdrawn p) h table
+  pub granted : (ship : ℕ) → IfSome (slice_get wishes ship) (λ wish. Grants wish (slice_index table ship))
 
--- it meets the plan, with this cargo by the port; and no timetable that meets the plan has more cargo, or as much with fewer moved ships
+abbrev pub PortPermitsBy : Judged → Parts → TideParts → List Wish → List ℕ → Type 0
+PortPermitsBy (WholeDay withdrawn) p h wishes table = PortPermitsWhole p h withdrawn wishes table
+PortPermitsBy (FromNow now out) p h wishes table = PortMeets p h now out wishes table
+
+-- the timetable meets the plan by the port's words
+abbrev pub PortPermitsPlan : Parts → TideParts → PlanParts → List ℕ → Type 0
+PortPermitsPlan p h plan table = PortPermitsBy plan.judged p h plan.wishes table
+
+abbrev pub port_cargo_by : Judged → Parts → TideParts → List Wish → List ℕ → Option ℕ
+port_cargo_by (WholeDay withdrawn) p h wishes table = port_cargo p h table
+port_cargo_by (FromNow now out) p h wishes table = port_rest_cargo p h wishes table
+
+-- what a timetable carries by the port and the plan: from now on the ships that aren't gone
+abbrev pub port_plan_cargo : Parts → TideParts → PlanParts → List ℕ → Option ℕ
+port_plan_cargo p h plan table = port_cargo_by plan.judged p h plan.wishes table
+
+-- it meets the plan, with this cargo by the port and the plan; and no timetable that meets the plan has more cargo, or as much with fewer moved ships
 pub record IsBestPortRepair (p : Parts) (h : TideParts) (plan : PlanParts) (table : List ℕ) (c : ℕ) : Type 0 where
   pub meets : PortPermitsPlan p h plan table
-  pub worth : port_cargo p h table ≡ Some c
-  pub greatest : (other : List ℕ) (d : ℕ) → PortPermitsPlan p h plan other → port_cargo p h other ≡ Some d → d ≤ c
-  pub fewest : (other : List ℕ) → PortPermitsPlan p h plan other → port_cargo p h other ≡ Some c → moved plan table ≤ moved plan other
+  pub worth : port_plan_cargo p h plan table ≡ Some c
+  pub greatest : (other : List ℕ) (d : ℕ) → PortPermitsPlan p h plan other → port_plan_cargo p h plan other ≡ Some d → d ≤ c
+  pub fewest : (other : List ℕ) → PortPermitsPlan p h plan other → port_plan_cargo p h plan other ≡ Some c → moved plan table ≤ moved plan other
 
 -- what is said of a subject is said of the problem of a flat text, of a port, and of a plan of either
 pub record SameWords : Type 0 where

@@ -4,7 +4,7 @@ use Rattle.hw_report.specs.Reports.{Report}
 use Rattle.hw_command.specs.Ends.{Ends}
 use Rattle.hw_command.proofs.CertWorks.{ends_in}
 use Rattle.hw_subject.specs.Subjects.{topic_seen}
-use Rattle.hw_command_search.proofs.Resumptions.{broke_carries, can_print, found_carries, resume_stops, resumed_slots, stopped_carries}
+use Rattle.hw_command_search.proofs.Resumptions.{broke_carries, can_print, found_carries, resume_stops, stopped_carries}
 use Rattle.hw_command_search.proofs.resuming.resume_subject.Goals as goal
 
 pub returns-in-Err : goal.returns-in-Err
@@ -12,9 +12,6 @@ returns-in-Err g c = resume_stops (topic_seen c.args.subject) c.args.cert.now c.
 
 pub returns-in-Stopped : goal.returns-in-Stopped
 returns-in-Stopped g c = stopped_carries (topic_seen c.args.subject) (g.D.Desk.state c.resume_to.new.desk) c.in-Stopped.stopped c.in-Ok.ensures.given (rw c.searched.ensures at c.in-Stopped.ensures) (ends_in c.in-Stopped.stopped c.check_report.ensures.value c.names.ensures c.finish-in-Stopped.ensures)
-
-pub found_report-requires : goal.found_report-requires
-found_report-requires g c = resumed_slots (topic_seen c.args.subject) c.in-Sent.found c.in-Ok.ensures.given (rw c.searched.ensures at c.in-Sent.ensures)
 
 pub finish-requires-in-Sent : goal.finish-requires-in-Sent
 finish-requires-in-Sent g c = subst (λ (r : Report). CanPrint r) (sym c.found_report.ensures) (can_print (topic_seen c.args.subject) c.in-Sent.found c.in-Ok.ensures.given (rw c.searched.ensures at c.in-Sent.ensures))

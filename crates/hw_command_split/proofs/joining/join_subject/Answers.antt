@@ -23,7 +23,7 @@ pub returns-in-Stopped : goal.returns-in-Stopped
 returns-in-Stopped g c = stopped_carries (topic_seen c.args.subject) (g.D.Desk.state c.join_to.new.desk) c.in-Stopped.stopped c.in-Ok.ensures.given (rw c.searched-flat.ensures at c.in-Ok-read_split_input.ensures.split) (rw c.searched-flat.ensures at c.in-Stopped.ensures) (ends_in c.in-Stopped.stopped c.check_report.ensures.value c.names.ensures c.finish-in-Stopped.ensures)
 
 pub returns-in-Sent : goal.returns-in-Sent
-returns-in-Sent g c = sent_carries (topic_seen c.args.subject) (g.D.Desk.state c.join_to.new.desk) c.in-Sent.joined c.in-Ok.ensures.given (rw c.searched-flat.ensures at c.in-Ok-read_split_input.ensures.split) (rw c.searched-flat.ensures at c.in-Sent.ensures) (rw c.repaired_ships.ensures at (rw c.names-in-Sent.ensures at c.finish_joined.ensures))
+returns-in-Sent g c = sent_carries (topic_seen c.args.subject) (g.D.Desk.state c.join_to.new.desk) c.in-Sent.joined c.in-Ok.ensures.given (rw c.searched-flat.ensures at c.in-Ok-read_split_input.ensures.split) (rw c.searched-flat.ensures at c.in-Sent.ensures) (rw c.plan.ensures at (rw c.names-in-Sent.ensures at c.finish_joined.ensures))
 
 pub returns : goal.returns
 returns g c = broke_carries (topic_seen c.args.subject) (g.D.Desk.state c.join_to.new.desk) c.in-Ok.ensures.given (rw c.searched-flat.ensures at c.in-Ok-read_split_input.ensures.split) (rw c.searched-flat.ensures at c.in-WriteFailed.ensures)
