@@ -136,7 +136,7 @@ wish_small f (FromNow now out) (Planned slot from) flat time fits = (omega (arit
 wish_small f (FromNow now out) (New from) flat time fits = omega (arith, fits, flat.few_slots)
 
 wide : (n : ℕ) → n ≤ 1_000 → n < 2 ^ 64
-wide n le = omega (arith, le, lit< {1_000} {2 ^ 64} tt)
+wide n le = omega (arith, le)
 
 -- ---- wishes
 
