@@ -13,7 +13,8 @@ use Rattle.hw_model.specs.declared.rule.Rule.TheVariants.{Pair, After, Tugs}
 use Rattle.hw_model.specs.Problem.{Problem}
 use Rattle.hw_model.specs.Limits.{IsFlat, RuleFits, JobFits}
 use Rattle.hw_model.specs.Rules.{held_by}
-use Rattle.hw_audit.specs.Keeping.{last_jobs, held_from, held_at}
+use Rattle.hw_audit.specs.Keeping.{last_jobs, held_at}
+use Rattle.hw_repair.specs.Wishes.{held_from}
 use Rattle.hw_rules.specs.Fleets.{jobs_in}
 
 -- ---- where a ship has another slot, the tugs held change by its own job's

@@ -11,6 +11,7 @@ use Rattle.hw_audit.specs.declared.marks.Concern.{Concern}
 use Rattle.hw_audit.specs.declared.marks.Concern.TheVariants.{Every, Ship, Fleet}
 use Rattle.hw_plan_texts.specs.Fleets.{lessened, lessened_rule}
 use Rattle.hw_audit.specs.Watching.{Watched}
+use Rattle.hw_repair.specs.Wishes.{held_from}
 use Rattle.hw_rules.specs.Fleets.{jobs_in}
 
 -- ---- tugs
@@ -23,11 +24,7 @@ TugsComeLast rules = (place fleet : ℕ) (later : List Step) (jobs : List Job) �
 abbrev pub last_jobs : List Rule → List Job
 last_jobs rules = jobs_in (slice_get rules (length rules - 1))
 
--- the tugs that a job holds in a slot if its ship sails in slot `at`
-abbrev pub held_from : ℕ → ℕ → Job → ℕ
-held_from at slot job = if nat_le at slot && nat_lt slot (at + job.hold) then job.tugs else 0
-
--- the same of a job of this ship, and nothing of the others
+-- the tugs that a job of this ship holds in a slot if the ship sails in slot `at`, and nothing of the others
 abbrev pub held_at : ℕ → ℕ → ℕ → Job → ℕ
 held_at ship at slot job = if job.ship == ship then held_from at slot job else 0
 

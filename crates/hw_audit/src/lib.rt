@@ -20,7 +20,7 @@ mod tugs;
 
 pub use audit::Audit;
 pub use carried::{carried_reads, carried_rows, keeps_the_day};
-pub use carrying::put_carried;
+pub use carrying::{put_carried, put_line, put_long_line, put_wish};
 pub use event::{Events, PortEvent};
 pub use fault::{AuditWord, TextFault};
 pub use laws::{
