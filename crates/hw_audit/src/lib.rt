@@ -25,6 +25,7 @@ pub use event::{Events, PortEvent};
 pub use fault::{AuditWord, TextFault};
 pub use laws::{
     all_taken_keep, broken_exactly, call_rows, lessened_fits, none_broken, none_broken_first,
-    none_port_broken, none_port_broken_after, same_timetables, taken_keeps, text_rows, watch_rows,
+    none_port_broken, none_port_broken_after, port_plan, same_timetables, taken_keeps, text_rows,
+    watch_rows,
 };
 pub use reading::{read_events, read_table};
