@@ -22,10 +22,10 @@ regroup front event (Ok x) = ap (λ (es : List PortEvent). Ok (es, x.1)) (sym (a
 regroup front event (Err f) = refl
 
 -- the first line of a text that has one, and the parts of the rest, of which there is always one
-abbrev Cut : List (List ℕ) → List ℕ → List ℕ → Type 0
+abbrev pub Cut : List (List ℕ) → List ℕ → List ℕ → Type 0
 Cut parts line rest = Some (line, parts_of 10 rest) ≡ first_part parts
 
-cut_is : (parts : List (List ℕ)) (line rest : List ℕ) → Cut parts line rest → parts ≡ line ∷ parts_of 10 rest
+pub cut_is : (parts : List (List ℕ)) (line rest : List ℕ) → Cut parts line rest → parts ≡ line ∷ parts_of 10 rest
 cut_is [] line rest h = absurd cc
 cut_is (x ∷ []) line rest h = absurd cc
 cut_is (x ∷ y ∷ more) line rest h = cons (line, parts_of 10 rest) (x, y ∷ more) h

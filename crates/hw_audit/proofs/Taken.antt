@@ -60,7 +60,7 @@ taken f fleet s (Back count) is none = record { listed = is.listed; each_ship = 
 
 -- ---- lists of events
 
-pub none_of_two : (place : ℕ) (o : Option AuditWord) (later : Option (ℕ × AuditWord)) → refused_or place o later ≡ None → (o ≡ None) × (later ≡ None)
+pub none_of_two : {W : Type 0} (place : ℕ) (o : Option W) (later : Option (ℕ × W)) → refused_or place o later ≡ None → (o ≡ None) × (later ≡ None)
 none_of_two place None later e = (refl, e)
 none_of_two place (Some word) later e = absurd cc
 

@@ -29,7 +29,7 @@ any_number word = number_up_to 4_294_967_295 word
 abbrev pub count_form : List ℕ → Option ℕ
 count_form word = number_from_to 1 1_000 word
 
-abbrev pub event_by : {A B : Type 0} → (A → B → PortEvent) → Option A → Option B → Option PortEvent
+abbrev pub event_by : {A B C : Type 0} → (A → B → C) → Option A → Option B → Option C
 event_by make None b = None
 event_by make (Some a) None = None
 event_by make (Some a) (Some b) = Some (make a b)

@@ -62,7 +62,7 @@ abbrev pub after_all : Watched → List PortEvent → Watched
 after_all s events = fold watched_after s events
 
 -- the first of two refusals: that of the event at a place, or a later one
-abbrev pub refused_or : ℕ → Option AuditWord → Option (ℕ × AuditWord) → Option (ℕ × AuditWord)
+abbrev pub refused_or : {W : Type 0} → ℕ → Option W → Option (ℕ × W) → Option (ℕ × W)
 refused_or place None later = later
 refused_or place (Some word) later = Some (place, word)
 

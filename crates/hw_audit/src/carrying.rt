@@ -96,8 +96,8 @@ fn put_wishes<W: Writer>(out: &mut W, day: Slot, sailed: &[bool], planned: &[Slo
     }
 }
 
-/// Puts the lines before those of the ships.
-fn put_opening<W: Writer>(out: &mut W, withdrawn: u32)
+/// Puts what stands before the lines of the ships in a plan of the whole day.
+pub fn put_opening<W: Writer>(out: &mut W, withdrawn: u32)
     ensures { Puts (opening_text (WholeDay withdrawn)) (W.state out.old) (W.state out.new) }
 {
     if withdrawn == 0 {

@@ -25,14 +25,14 @@ pub fn table_of(alloc: Global, line: &[u8], shape: Shape) -> Result<Option<Vec<S
 }
 
 /// The number of a ship or a slot.
-fn number_of(word: &[u8]) -> Option<u32>
+pub fn number_of(word: &[u8]) -> Option<u32>
     ensures { result ≡ any_number word.now }
 {
     read_small(word, 0, u32::MAX)
 }
 
 /// A count of slots or tugs, 1 to 1000.
-fn count_of(word: &[u8]) -> Option<u32>
+pub fn count_of(word: &[u8]) -> Option<u32>
     ensures { result ≡ count_form word.now }
 {
     read_small(word, 1, 1000)
