@@ -157,7 +157,8 @@ fn note(flat: &Flat, fleet: u32, now: Slot, tally: &mut Tally, event: DayEvent)
         DayEvent::Sailed { ship, .. } => tally.sailed[ship as usize] = true,
         DayEvent::Out { count, slot } => add(&mut tally.out, count, slot),
         DayEvent::Back { count, slot } => take_away(&mut tally.out, count, slot),
-        _ => {}
+        DayEvent::Delayed { .. } => {}
+        DayEvent::Fixed { .. } => {}
     }
 }
 
