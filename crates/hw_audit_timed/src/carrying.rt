@@ -8,7 +8,7 @@ use crate::event::{Day, DayEvent};
 use crate::fault::DayFault;
 use crate::tally::tally_of;
 use hw_flat::{Flat, Timetable};
-use hw_model::{NoMemory, ShipId, Slot, Step, Steps};
+use hw_model::{MOST_SHIPS, NoMemory, ShipId, Slot, Step, Steps};
 use hw_repair::{Judged, Plan, Wish};
 use std::alloc::Global;
 
@@ -62,7 +62,7 @@ fn wishes_of(
     events: &[DayEvent],
     table: &[Slot],
 ) -> Result<Vec<Wish>, NoMemory>
-    requires few { length table.now ≤ 4294967295 }
+    requires few { length table.now ≤ MOST_SHIPS }
     ensures { IfOk result (λ wishes. wishes.items ≡ wishes_from now events.now 0 table.now) }
 {
     let mut wishes = Vec::with_capacity(alloc, table.len())?;
@@ -73,13 +73,13 @@ fn wishes_of(
 }
 
 /// A step in each slot from now on in which another number of tugs is out than in the slot before.
-fn changes(alloc: Global, out: &[u32], now: Slot) -> Result<Vec<Step>, NoMemory>
-    requires few { length out.now ≤ 4294967295 }
-    ensures { IfOk result (λ steps. steps.items ≡ changes (λ slot. slice_index out.now slot) 0 now (length out.now - now)) }
+fn changes(alloc: Global, out: &[u32], now: Slot, sailing: u32) -> Result<Vec<Step>, NoMemory>
+    requires each_slot { length out.now ≡ sailing }
+    ensures { IfOk result (λ steps. steps.items ≡ changes (λ slot. slice_index out.now slot) 0 now (sailing - now)) }
 {
     let mut steps = Vec::new(alloc);
     let mut before = 0;
-    for slot in now..out.len() as u32 {
+    for slot in now..sailing {
         let count = out[slot as usize];
         if count != before {
             steps.push(Step {
@@ -105,8 +105,10 @@ pub fn carry(
     ensures { CarriesDay flat.now fleet table.now day.now result }
 {
     let tally = tally_of(alloc, flat, fleet, day)?;
+    // The call shows that it has at most 40 slots.
+    let _ships = table.len();
     let wishes = wishes_of(alloc, day.now, &day.happened, table.as_slice())?;
-    let items = changes(alloc, &tally.out, day.now)?;
+    let items = changes(alloc, &tally.out, day.now, flat.horizon())?;
     Ok(Plan {
         judged: Judged::FromNow {
             now: day.now,

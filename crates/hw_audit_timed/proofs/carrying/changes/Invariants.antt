@@ -1,6 +1,6 @@
-use Rattle.std.proofs.Common.{◌≡◌, ℕ, ◌++◌, ◌-◌, length, get_or}
+use Rattle.std.proofs.Common.{◌≡◌, ℕ, ◌++◌, ◌-◌, get_or}
 use Rattle.hw_audit_timed.specs.Carried.{changes}
 use Rattle.hw_audit_timed.proofs.carrying.changes.Given as goal
 
 abbrev pub invariant-loop-slot : goal.invariant-loop-slot
-invariant-loop-slot l = l.steps.items ++ changes (λ slot. get_or l.out slot 0) l.before l.slot (length l.out - l.slot) ≡ changes (λ slot. get_or l.out slot 0) 0 l.now (length l.out - l.now)
+invariant-loop-slot l = l.steps.items ++ changes (λ slot. get_or l.out slot 0) l.before l.slot (l.sailing - l.slot) ≡ changes (λ slot. get_or l.out slot 0) 0 l.now (l.sailing - l.now)
