@@ -1,5 +1,5 @@
 -- The text of a report, each line ended.
-use Rattle.std.specs.Prelude.{ℕ, Bool, true, false, List, [], ◌∷◌, Option, Some, None, codes, decimal, option_and_then}
+use Rattle.std.specs.Prelude.{ℕ, Bool, true, false, List, [], ◌∷◌, Option, Some, None, codes, decimal}
 use Rattle.std.specs.List.{concat}
 use Rattle.hw_model.specs.Problem.{Problem}
 use Rattle.hw_cert_lines.specs.declared.check.CheckWord.TheVariants as checks
@@ -13,7 +13,7 @@ use Rattle.hw_report.specs.declared.report.RefusedWord.{RefusedWord}
 use Rattle.hw_report.specs.declared.report.RefusedWord.TheVariants.{Check}
 use Rattle.hw_report.specs.Reports.{Naming, Report, by_number, solved, checked, demo, bad_words, bad_flat, bad_json, bad_field, bad_tides, refused, read_fault, too_long, no_memory, bad_text, clashed, met, spent_step, clash_holds, parts_told, part_told, open_part, after, audit_end, whole_text, picture}
 use Rattle.hw_report.specs.Words.{feed_text, flat_word_text, refused_word_text}
-use Rattle.hw_report.specs.Plans.{told_cargo}
+use Rattle.hw_report.specs.Plans.{best_told}
 use Rattle.hw_port.specs.Places.{path_text, word_text}
 use Rattle.hw_report.specs.Lines.{numbered, checked_text, head_text, bound_text, table_text, numbers_text, reported_drop_lines, broken_text}
 
@@ -49,7 +49,7 @@ demo_text head best verdict lemmas = summary_text head best verdict lemmas
 
 -- what a search found: the head line, the bound, and the timetable's lines
 abbrev pub solved_text : Problem → Naming → Head → Option (List ℕ) → Option PlanParts → Option ℕ → List ℕ
-solved_text f names head table plan bound = concat (head_text names head (option_and_then (told_cargo f plan) table) ∷ bound_text names head bound ∷ table_text f names plan table ∷ [])
+solved_text f names head table plan bound = concat (head_text names head (best_told f plan table) ∷ bound_text names head bound ∷ table_text f names plan table ∷ [])
 
 -- the end of the line on a part
 abbrev pub part_word : Bool → List ℕ

@@ -1,15 +1,13 @@
 //! Reports of what was found.
 
 ghost use Rattle.std.specs.Prelude.{◌≡◌, IfSome};
-ghost use Rattle.std.specs.Option.{option_and_then};
 ghost use Rattle.hw_model.specs.Problem.{IsTimetable};
 ghost use Rattle.hw_desk.specs.Writers.{Puts};
 ghost use Rattle.hw_repair.specs.Wishes.{PlanFits};
-ghost use Rattle.hw_report.specs.Lines.{head_text};
-ghost use Rattle.hw_report.specs.Plans.{told_cargo};
+ghost use Rattle.hw_report.specs.Plans.{best_told, told_cargo};
 ghost use Rattle.hw_report.specs.Printing.{IsTableOfProblem};
 ghost use Rattle.hw_report.specs.Reports.{part_told, parts_told, spent_step};
-ghost use Rattle.hw_report.specs.Seen.{names_seen, plan_seen, table_seen};
+ghost use Rattle.hw_report.specs.Seen.{plan_seen, table_seen};
 ghost use Rattle.hw_report.specs.Texts.{demo_text, part_word, report_text, summary_text};
 
 use crate::lines::put_head;
@@ -34,32 +32,16 @@ fn told_cargo(flat: &Flat, plan: Option<&Plan>, table: &Timetable) -> Option<u64
     }
 }
 
-/// The cargo of a timetable, if there is one, in tenths of a tonne.
-fn best(flat: &Flat, plan: Option<&Plan>, table: Option<&Timetable>) -> Option<u64>
+/// What a timetable carries, if there is one, in tenths of a tonne.
+pub fn best(flat: &Flat, plan: Option<&Plan>, table: Option<&Timetable>) -> Option<u64>
     requires table { IsTableOfProblem flat.now (table_seen table) }
     requires fits { IfSome (plan_seen plan) (PlanFits flat.now) }
-    ensures { result ≡ option_and_then (told_cargo flat.now (plan_seen plan.entry)) (table_seen table.entry) }
+    ensures { result ≡ best_told flat.now (plan_seen plan.entry) (table_seen table.entry) }
 {
     match table {
         Some(table) => told_cargo(flat, plan, table),
         None => None,
     }
-}
-
-/// Puts the head line of a search, with the cargo of its timetable, if there is one.
-pub fn put_outcome<W: Writer>(
-    out: &mut W,
-    flat: &Flat,
-    names: Names,
-    plan: Option<&Plan>,
-    head: Head,
-    table: Option<&Timetable>,
-)
-    requires table { IsTableOfProblem flat.now (table_seen table) }
-    requires fits { IfSome (plan_seen plan) (PlanFits flat.now) }
-    ensures { Puts (head_text (names_seen names.entry) head (option_and_then (told_cargo flat.now (plan_seen plan.entry)) (table_seen table.entry))) (W.state out.old) (W.state out.new) }
-{
-    put_head(out, names, head, best(flat, plan, table));
 }
 
 /// Puts a demonstration's summary.

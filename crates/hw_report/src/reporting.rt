@@ -6,9 +6,9 @@ ghost use Rattle.hw_report.specs.Printing.{CanPrint};
 ghost use Rattle.hw_report.specs.Seen.{report_seen};
 ghost use Rattle.hw_report.specs.Texts.{report_text};
 
-use crate::lines::{put_bound, put_numbered};
+use crate::lines::{put_bound, put_head, put_numbered};
 use crate::lists::{put_after, put_clash, put_met};
-use crate::print::{put_demo, put_outcome, put_part, put_parts, put_step};
+use crate::print::{best, put_demo, put_part, put_parts, put_step};
 use crate::refusals::{
     put_bad_field, put_bad_flat, put_bad_text, put_bad_tides, put_feed, put_refused,
 };
@@ -42,7 +42,7 @@ fn put_report<W: Writer>(out: &mut W, report: &Report)
             plan,
             bound,
         } => {
-            put_outcome(out, flat, names, plan, head, table);
+            put_head(out, names, head, best(flat, plan, table));
             put_bound(out, names, head, bound);
             put_table(out, flat, names, plan, table);
         }
