@@ -2,7 +2,7 @@
 
 ghost use Rattle.hw_repair.specs.Laws.{LeftFits, LeftPermits, LeftCargo, Morning, RestIsOpen, StaysMet, RepairedValue, RepairedFits, RepairedPermits, RepairedCargo, RepairedMeets, BestRepair, NoneRepair, WrittenReads};
 ghost use Rattle.hw_repair.specs.Rows.{RepairRows, PlanRows, WrittenRows};
-ghost use Rattle.hw_repair.specs.TimedRows.{LeftRows, TimedRows};
+ghost use Rattle.hw_repair.specs.TimedRows.{LeftRows, TimedRows, TimedTextRows, TimedWrittenRows};
 
 /// What a plan leaves of a problem is within the limits of a flat problem, and has a text.
 pub fn left_fits()
@@ -99,4 +99,14 @@ pub fn plan_rows()
 /// Worked rows: the texts of plans.
 pub fn written_rows()
     ensures { WrittenRows }
+{}
+
+/// Worked rows: what texts of plans that know the time say.
+pub fn timed_text_rows()
+    ensures { TimedTextRows }
+{}
+
+/// Worked rows: the texts of plans that know the time.
+pub fn timed_written_rows()
+    ensures { TimedWrittenRows }
 {}

@@ -24,7 +24,8 @@ pub use gone::is_gone;
 pub use laws::{
     best_repair, left_cargo, left_fits, left_permits, left_rows, morning, none_repair, plan_rows,
     repair_rows, repaired_cargo, repaired_fits, repaired_meets, repaired_permits, repaired_value,
-    rest_is_open, stays_met, timed_rows, written_reads, written_rows,
+    rest_is_open, stays_met, timed_rows, timed_text_rows, timed_written_rows, written_reads,
+    written_rows,
 };
 pub use moving::{counted, moved};
 pub use plan::{Judged, Plan, Wish};

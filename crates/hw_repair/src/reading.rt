@@ -56,26 +56,26 @@ fn out_lines(
     ensures reads { TextReadGives (λ x. (x.0, parts_of 10 x.1.now)) result (outs_at 3 now 0 sailing (parts_of 10 bytes.now)) }
     ensures few { IfOk result (λ x. length x.0 ≤ sailing) }
 {
-    let mut items = Vec::new(alloc);
+    let mut steps = Vec::new(alloc);
     let mut rest = bytes;
     let mut least = now;
     let mut before = 0;
     while let Some((line, after)) = cut_line(rest) {
         if !is_out_line(line) {
-            break;
+            return Ok((Steps { items: steps }, rest));
         }
         let Some(step) = out_of(line, least, before, sailing) else {
             return Err(LineFault::Line {
-                number: 3 + items.len() as u64,
+                number: 3 + steps.len() as u64,
                 word: PlanWord::Fleet,
             });
         };
-        items.push(step)?;
+        steps.push(step)?;
         least = step.from + 1;
         before = step.fleet;
         rest = after;
     }
-    Ok((Steps { items }, rest))
+    Ok((Steps { items: steps }, rest))
 }
 
 /// The time, in the second line, and the tugs that are out, on the lines after it.

@@ -4,4 +4,5 @@ use Rattle.hw_repair.proofs.reading.read_plan.Goals as goal
 
 pub returns-clause-fits : goal.returns-clause-fits
 returns-clause-fits c =
-    plan_fits c.args.flat.now c.in_ok-withdrawn.field-0.first (parts_of 10 c.in_ok-withdrawn.field-0.rest.now) (record { withdrawn = c.in_ok-withdrawn.field-0.withdrawn; wishes = c.in_ok-wishes.wishes.items }) (parts_of 10 c.in_ok-wishes.rest.now) c.shape.ensures.limits (rw c.shape.ensures.value at c.shape.ensures.fits).some_slot c.in_ok-wishes.ensures
+    let head = c.in_ok-judged.field-0 in
+    plan_fits c.args.flat.now (parts_of 10 c.args.bytes.now) (head.judged, head.first, parts_of 10 head.rest.now) (c.in_ok-wishes.wishes.items, parts_of 10 c.in_ok-wishes.rest.now) c.shape.ensures.limits c.in_ok-judged.ensures c.in_ok-wishes.ensures
