@@ -1,8 +1,7 @@
 -- What a plan leaves of a problem permits the timetables that meet the plan, and has their cargo and its limits.
 use Rattle.std.proofs.Common.{◌≡◌, inl, inr, ℕ, suc, ◌+◌, ◌-◌, ◌*◌, ◌<◌, ◌≤◌, max, min, pos, ◌-ℤ◌, Bool, true, false, cond, ◌&&◌, ◌||◌, nat_le, List, [], ◌∷◌, map, Option, Some, None, option_map, slice_get, sum_by, unwrap_or, IfSome, IsSome, IsTrue, All, length, get_or, refl, sym, ap, subst, ◌∙◌, arith}
 use Rattle.std.specs.Prelude.{◌↔◌, ◌≢◌}
-use Rattle.std.specs.List.{range_with_len}
-use Rattle.std.proofs.lemmas.Bool.{cases_lt, cases_Bool, cond_both, le-leb, leb-true, or_right, and_from}
+use Rattle.std.proofs.lemmas.Bool.{cases_lt, cond_both, le-leb, leb-true, or_right, and_from}
 use Rattle.std.proofs.lemmas.Int.{ints}
 use Rattle.std.proofs.lemmas.Option.{slice_get-map, get_or_from_slice_get}
 use Rattle.std.proofs.lemmas.List.{length-map, get_or_past}
@@ -31,10 +30,10 @@ use Rattle.hw_repair.specs.declared.plan.Wish.{Wish}
 use Rattle.hw_repair.specs.declared.plan.Wish.TheVariants.{Kept}
 use Rattle.hw_repair.specs.AsOf.{value_as_of, over_rule, fleet_as_of, steps_of, rule_as_of, as_of, problem_by}
 use Rattle.hw_repair.specs.Laws.{GrantsEach, LeftFits, LeftPermits, LeftCargo}
-use Rattle.hw_repair.specs.Wishes.{PlanParts, IsRepairable, GrantsNow, RestKeeps, KeepsRest, KeepsBy, cargo_by, rest_value, rest_cargo_from, is_kept, is_gone, held_by_gone, held_by_rest}
+use Rattle.hw_repair.specs.Wishes.{IsRepairable, GrantsNow, RestKeeps, KeepsRest, KeepsBy, cargo_by, rest_value, rest_cargo_from, is_kept, is_gone, held_by_gone, held_by_rest}
 use Rattle.hw_repair.proofs.GoneTugs.{SailedIn, in_two_parts, gone_few, rest_later}
 use Rattle.hw_repair.proofs.Hours.{fleet_told, steps_fit, steps_sail, steps_ascend}
-use Rattle.hw_repair.proofs.Leaves.{last_in, as_of_value, as_of_keeps, rest_there, gone_there, sails_now, counts_now, grants_at_all, granted_from_now, grants_now, granted_at}
+use Rattle.hw_repair.proofs.Leaves.{last_in, as_of_value, as_of_keeps, rest_there, sails_now, counts_now, grants_at_all, granted_from_now, grants_now, granted_at}
 use Rattle.hw_repair.proofs.Values.{at_value, value_repairable}
 
 -- ---- a rule that is over

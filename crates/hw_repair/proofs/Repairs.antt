@@ -1,14 +1,12 @@
 -- The problem of a repair permits what meets the plan, and its best timetables are the best repairs.
 use Rattle.std.proofs.Common.{◌≡◌, inl, inr, ℕ, ◌+◌, ◌-◌, ◌*◌, ◌/◌, ◌%◌, ◌<◌, ◌≤◌, List, Option, Some, None, option_map, slice_get, unwrap_or, IfSome, IsSome, IsTrue, All, length, get_or, refl, sym, ap, subst, ◌∙◌, arith}
 use Rattle.std.proofs.Math.Nat.{mul-le-mul_left}
-use Rattle.std.specs.Prelude.{◌↔◌}
 use Rattle.std.proofs.lemmas.Bool.{cases_lt}
 use Rattle.std.proofs.lemmas.Nat.{div-mul-add, mod-mul-add}
 use Rattle.std.proofs.lemmas.Option.{same_Some, get_or_from_slice_get}
 use Rattle.std.proofs.lemmas.List.Elements.{All-get_or}
 use Rattle.hw_lemmas.proofs.Truths.{if_some, if_some_from}
 use Rattle.hw_lemmas.proofs.Lists.{get_within, has_get}
-use Rattle.hw_plan_texts.specs.Fleets.{lessened}
 use Rattle.hw_plan_texts.specs.Grids.{grid_of_values}
 use Rattle.hw_model.specs.declared.rule.Rule.{Rule}
 use Rattle.hw_plan_texts.proofs.Alike.{rules_alike}
@@ -22,7 +20,7 @@ use Rattle.hw_flat.specs.TextWritten.{IsWritable}
 use Rattle.hw_repair.specs.declared.plan.Judged.{Judged}
 use Rattle.hw_repair.specs.declared.plan.Judged.TheVariants.{WholeDay, FromNow}
 use Rattle.hw_repair.specs.declared.plan.Wish.{Wish}
-use Rattle.hw_repair.specs.AsOf.{problem_by, as_of, left_by}
+use Rattle.hw_repair.specs.AsOf.{problem_by, left_by}
 use Rattle.hw_repair.specs.Wishes.{PlanParts, Grants, IsRepairable, PlanFits, PermitsPlan, plan_cargo, moved, counted}
 use Rattle.hw_repair.specs.Repaired.{repaired_worth, value_by, repaired_by, repaired, own_cargo, own_moved, IsBestRepair}
 use Rattle.hw_repair.specs.Laws.{GrantsEach, RepairedValue, RepairedFits, RepairedPermits, RepairedCargo, CarriesRepaired, RepairedMeets, BestRepair, NoneRepair}

@@ -1,11 +1,11 @@
 //! What a plan leaves of its problem: fewer tugs, or the problem as of now.
 
-ghost use Rattle.std.specs.Prelude.{◌≡◌, ◌≢◌, ℕ, ◌+◌, ◌-◌, ◌<◌, ◌≤◌, IfOk, Some, length, All, map, max, sum_by};
+ghost use Rattle.std.specs.Prelude.{◌≡◌, ℕ, ◌-◌, ◌<◌, ◌≤◌, IfOk, Some, length, All, map, max, sum_by};
 ghost use Rattle.hw_model.specs.Limits.{JobFits, RuleFits};
 ghost use Rattle.hw_model.specs.Problem.{horizon, value_at};
 ghost use Rattle.hw_model.specs.Rules.{fleet_in};
 ghost use Rattle.hw_repair.specs.AsOf.{value_as_of, over_rule, fleet_as_of, tugs_by, rule_as_of, left_by};
-ghost use Rattle.hw_repair.specs.Wishes.{PlanFits, held_by_gone};
+ghost use Rattle.hw_repair.specs.Wishes.{held_by_gone};
 
 use crate::gone::{held_by_gone, is_gone};
 use crate::plan::{Judged, Plan, Wish};
