@@ -1,6 +1,5 @@
 -- A plan that is written reads as itself.
 use Rattle.std.proofs.Common.{◌≡◌, ◌≢◌, ◌==◌, ℕ, zero, suc, ◌+◌, ◌-◌, ◌*◌, ◌<◌, ◌≤◌, ◌^◌, cond, nat_lt, Bool, true, false, List, [], ◌∷◌, ◌++◌, map, Some, Ok, All, length, codes, decimal, unwrap_or, refl, sym, ap, ◌∙◌, append_assoc, lit<, arith}
-use Rattle.std.specs.Prelude.{⊤}
 use Rattle.std.proofs.lemmas.Bool.{and_from, le-ltb, ne_eqb}
 use Rattle.std.proofs.lemmas.List.Elements.{All-head, All-tail}
 use Rattle.std.proofs.lemmas.List.Folds.{list_all-append}
@@ -136,7 +135,7 @@ wish_small f (FromNow now out) (Planned slot from) flat time fits = (omega (arit
 wish_small f (FromNow now out) (New from) flat time fits = omega (arith, fits, flat.few_slots)
 
 wide : (n : ℕ) → n ≤ 1_000 → n < 2 ^ 64
-wide n le = omega (arith, le, lit< {1_000} {2 ^ 64} tt)
+wide n le = omega (arith, le)
 
 -- ---- wishes
 
