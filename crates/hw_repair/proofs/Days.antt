@@ -125,11 +125,11 @@ rest_is_open f now out wishes flat stay fits may =
     let lt : now < horizon f = fits.time.0 in
     let table : List ℕ = map (slot_or_stay (horizon f)) wishes in
     let at : (ship : ℕ) (wish : Wish) → slice_get wishes ship ≡ Some wish → get_or (map (slot_or_stay (horizon f)) wishes) ship 0 ≡ slot_or_stay (horizon f) wish = λ ship wish e.
-        get_or_from_slice_get (map (slot_or_stay (horizon f)) wishes) ship (slot_or_stay (horizon f) wish) 0 (slice_get-map (slot_or_stay (horizon f)) wishes ship ∙ ap (option_map (slot_or_stay (horizon f))) e) in
+    get_or_from_slice_get (map (slot_or_stay (horizon f)) wishes) ship (slot_or_stay (horizon f) wish) 0 (slice_get-map (slot_or_stay (horizon f)) wishes ship ∙ ap (option_map (slot_or_stay (horizon f))) e) in
     let stay_at : (ship : ℕ) → ship < f.ships → is_gone wishes ship ≡ false → (get_or (map (slot_or_stay (horizon f)) wishes) ship 0 ≡ horizon f) × IsSome (value_at f ship (horizon f)) = λ ship in' gone.
-        let w = has_get wishes ship (omega (arith, in', fits.each_ship)) in
-        let both = may_sail f ship w.0 (subst (λ o. is_kept o ≡ false) w.1 gone) (if_some (MayStay f ship) (slice_get wishes ship) w.0 w.1 (may ship)) in
-        (at ship w.0 w.1 ∙ both.0, both.1) in
+    let w = has_get wishes ship (omega (arith, in', fits.each_ship)) in
+    let both = may_sail f ship w.0 (subst (λ o. is_kept o ≡ false) w.1 gone) (if_some (MayStay f ship) (slice_get wishes ship) w.0 w.1 (may ship)) in
+    (at ship w.0 w.1 ∙ both.0, both.1) in
     record {
       listed = record {
         each_ship = length-map wishes (slot_or_stay (horizon f)) ∙ fits.each_ship;

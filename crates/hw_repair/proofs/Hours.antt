@@ -80,6 +80,7 @@ steps_more fleet slot some =
         ap (filter (changes fleet)) (sym (map-id (range_with_len 1 (n + 1))))
         ∙ (filter_of_map_range_with_len_more (changes fleet) (λ (x : ℕ). x) 1 n j at
         ∙ ap (λ (xs : List ℕ). filter (changes fleet) xs ++ cond (changes fleet j) (j ∷ []) []) (map-id (range_with_len 1 n)))
+
     by_test : (b : Bool) → map (step_at fleet) (cond b (slot ∷ []) []) ≡ cond b (step_at fleet slot ∷ []) []
     by_test true = refl
     by_test false = refl

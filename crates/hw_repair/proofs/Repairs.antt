@@ -93,17 +93,18 @@ keeps_from f r table place slots stay h =
 
 to_granted : (g : Problem) (wishes : List Wish) (table : List ℕ) → length wishes ≡ g.ships → Permits (repaired_by g wishes) table → Permits g table × GrantsEach wishes table
 to_granted g wishes table same permits =
-    let listed : IsTimetable g table = record { each_ship = permits.listed.each_ship; each_slot = permits.listed.each_slot } in
-    (record {
-      listed = listed;
-      sails = λ ship lt.
-          let w = wish_of g wishes ship same lt in
-          (value_there g wishes ship (get_or table ship 0) w.0 same w.1 (slot_in g table ship listed lt) (permits.sails ship lt)).1;
-      keeps = λ place. keeps_from (repaired_by g wishes) g table place refl refl (permits.keeps place);
-    },
-    λ ship. if_some_from _ (slice_get wishes ship) (λ wish e.
-        let lt : ship < g.ships = omega (arith, get_within wishes ship wish e, same) in
-        (value_there g wishes ship (get_or table ship 0) wish same e (slot_in g table ship listed lt) (permits.sails ship lt)).0))
+    let listed : IsTimetable g table = record { each_ship = permits.listed.each_ship; each_slot = permits.listed.each_slot } in (
+      record {
+        listed = listed;
+        sails = λ ship lt.
+            let w = wish_of g wishes ship same lt in
+            (value_there g wishes ship (get_or table ship 0) w.0 same w.1 (slot_in g table ship listed lt) (permits.sails ship lt)).1;
+        keeps = λ place. keeps_from (repaired_by g wishes) g table place refl refl (permits.keeps place);
+      },
+      λ ship. if_some_from _ (slice_get wishes ship) (λ wish e.
+          let lt : ship < g.ships = omega (arith, get_within wishes ship wish e, same) in
+          (value_there g wishes ship (get_or table ship 0) wish same e (slot_in g table ship listed lt) (permits.sails ship lt)).0),
+    )
 
 from_granted : (g : Problem) (wishes : List Wish) (table : List ℕ) → length wishes ≡ g.ships → Permits g table → GrantsEach wishes table → Permits (repaired_by g wishes) table
 from_granted g wishes table same permits each =

@@ -22,20 +22,8 @@ fn value_as_of(now: Slot, wish: Wish, slot: Slot, value: Option<u64>) -> Option<
     ensures { result ≡ value_as_of now (Some wish) slot value }
 {
     match wish {
-        Wish::Kept { slot: kept } => {
-            if slot == kept {
-                Some(0)
-            } else {
-                None
-            }
-        }
-        _ => {
-            if slot < now {
-                None
-            } else {
-                value
-            }
-        }
+        Wish::Kept { slot: kept } => { if slot == kept { Some(0) } else { None } }
+        _ => { if slot < now { None } else { value } }
     }
 }
 
@@ -185,11 +173,7 @@ fn rules_as_of(
 }
 
 /// The rules that a plan leaves, in order.
-pub(crate) fn rules_left(
-    alloc: Global,
-    flat: &Flat,
-    plan: &Plan,
-) -> Result<Vec<Rule>, NoMemory>
+pub(crate) fn rules_left(alloc: Global, flat: &Flat, plan: &Plan) -> Result<Vec<Rule>, NoMemory>
     requires each_ship { length plan.now.wishes ≡ flat.now.ships }
     ensures { IfOk result (λ list. list.items ≡ (left_by flat.now plan.now).rules) }
 {
