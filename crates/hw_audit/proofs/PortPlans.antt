@@ -1,5 +1,5 @@
 -- A timetable meets a plan that knows the time by the port's words exactly where it does by the port's flat problem.
-use Rattle.std.proofs.Common.{◌≡◌, ◌≢◌, ◌⊎◌, inl, inr, ℕ, suc, ◌+◌, ◌-◌, ◌<◌, ◌≤◌, Bool, true, false, cond, ◌&&◌, nat_lt, List, [], ◌∷◌, ◌++◌, map, zip, Option, Some, IfSome, IsSome, IsTrue, slice_get, length, get_or, sum_by, refl, sym, ap, ap₂, subst, ◌∙◌, arith}
+use Rattle.std.proofs.Common.{◌≡◌, inl, inr, ℕ, suc, ◌+◌, ◌-◌, ◌<◌, ◌≤◌, Bool, true, false, cond, ◌&&◌, nat_lt, List, [], ◌∷◌, ◌++◌, map, zip, Some, IsSome, slice_get, length, get_or, sum_by, refl, sym, ap, ap₂, subst, ◌∙◌, arith}
 use Rattle.std.proofs.lemmas.Bool.{cases_order}
 use Rattle.std.proofs.lemmas.Bool.Decides.{nat_tests}
 use Rattle.hw_lemmas.proofs.Lists.{get_within, has_get, stands_at}
@@ -10,8 +10,6 @@ use Rattle.hw_model.specs.declared.rule.Step.{Step}
 use Rattle.hw_model.specs.Problem.{Problem, horizon, value_at}
 use Rattle.hw_model.specs.Rules.{fleet_in}
 use Rattle.hw_model.specs.Timetables.{plus}
-use Rattle.hw_port.specs.declared.parts.AfterPair.{AfterPair}
-use Rattle.hw_port.specs.declared.parts.BerthPair.{BerthPair}
 use Rattle.hw_port.specs.Kept.{PortKept}
 use Rattle.hw_port.specs.Parts.{ShipParts}
 use Rattle.hw_port.specs.Whole.{Parts}
@@ -23,13 +21,13 @@ use Rattle.hw_port_laws.proofs.Permits.{PairHolds, pair_from, pair_gives, apart_
 use Rattle.hw_port_laws.proofs.Rows.{horizon_is}
 use Rattle.hw_port_laws.proofs.Ships.{ship_kept, given_is}
 use Rattle.hw_port_model.specs.Drafts.{ship_value}
-use Rattle.hw_port_model.specs.Flattened.{holes_of, pairs_from, berth_rule, after_rule, jobs_from, tug_rule, rules_of, flattened}
+use Rattle.hw_port_model.specs.Flattened.{pairs_from, berth_rule, after_rule, jobs_from, tug_rule, rules_of, flattened}
 use Rattle.hw_port_model.specs.Numbers.{whole, horizon_of, alike}
-use Rattle.hw_port_model.specs.Permitted.{Stays, ship_cargo, cargo_of}
+use Rattle.hw_port_model.specs.Permitted.{ship_cargo, cargo_of}
 use Rattle.hw_port_model.specs.Timetables.{IsPortTimetable, IsGiven, SailsIn}
 use Rattle.hw_repair.specs.declared.plan.Wish.{Wish}
 use Rattle.hw_repair.specs.Wishes.{PlanFits, RestKeeps, KeepsRest, is_kept, is_gone, held_by_gone, held_by_rest, rest_value, rest_cargo_from}
-use Rattle.hw_audit.specs.PortPlans.{PortMeets, PortPlan, BerthIsClearedNow, SailsAfterNow, plan_from, slots_of_rest, slots_of_gone, tugs_of, port_rest_cargo}
+use Rattle.hw_audit.specs.PortPlans.{PortMeets, PortPlan, BerthIsClearedNow, SailsAfterNow, plan_from, slots_of_rest, port_rest_cargo}
 use Rattle.hw_audit.proofs.Begun.{of_port, to_port}
 use Rattle.hw_audit.proofs.PlanTugs.{rest_tugs, gone_tugs}
 

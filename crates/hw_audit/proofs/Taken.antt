@@ -5,7 +5,6 @@ use Rattle.std.proofs.lemmas.List.Elements.{All-set}
 use Rattle.hw_model.specs.Problem.{Problem, IsTimetable, horizon, stays}
 use Rattle.hw_model_laws.proofs.Horizon.{horizon_le as horizon_within}
 use Rattle.hw_audit.specs.declared.event.PortEvent.TheVariants.{Sailed, Delayed, Withdrawn, Back}
-use Rattle.hw_audit.specs.declared.fault.AuditWord.{AuditWord}
 use Rattle.hw_audit.specs.declared.fault.AuditWord.TheVariants as words
 use Rattle.hw_audit.specs.Watching.{has_sailed, refused_event, watched_after, refused_or, first_refused}
 use Rattle.hw_audit.specs.Laws.{TakenKeeps, AllTakenKeep}

@@ -1,5 +1,5 @@
 -- What a plan that knows the time asks of a port's timetable, by the port's own words.
-use Rattle.std.specs.Prelude.{◌≡◌, ◌≢◌, ◌↔◌, ◌⊎◌, ℕ, ℤ, ◌-◌, ◌<◌, ◌≤◌, Bool, false, ◌&&◌, if◌then◌else◌, List, map, zip, sum_by, All, Some, Option, IfSome, IsSome, IsTrue, slice_get, slice_index}
+use Rattle.std.specs.Prelude.{◌≡◌, ◌≢◌, ◌↔◌, ◌⊎◌, ℕ, ℤ, ◌-◌, ◌<◌, ◌≤◌, false, ◌&&◌, if◌then◌else◌, List, map, zip, sum_by, All, Some, Option, IfSome, IsSome, IsTrue, slice_get, slice_index}
 use Rattle.hw_model.specs.declared.rule.Step.{Step}
 use Rattle.hw_model.specs.Rules.{fleet_in}
 use Rattle.hw_port.specs.Kept.{PortKept}

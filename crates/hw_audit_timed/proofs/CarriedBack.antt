@@ -1,5 +1,4 @@
 -- The text of the plan that a day leaves reads as the plan.
-use Rattle.std.proofs.Common.{◌≡◌, ℕ}
 use Rattle.hw_model.specs.Limits.{IsFlat}
 use Rattle.hw_port_laws.proofs.Limits.{flattened_fits_law}
 use Rattle.hw_port_model.specs.Flattened.{flattened}

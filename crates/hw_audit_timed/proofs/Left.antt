@@ -1,5 +1,5 @@
 -- What a day leaves each ship, ship by ship.
-use Rattle.std.proofs.Common.{◌≡◌, ℕ, zero, suc, ◌+◌, ◌-◌, ◌<◌, ◌≤◌, max, Bool, true, false, cond, List, [], ◌∷◌, zip, map, All, Option, Some, None, IfSome, slice_get, length, refl, ap, ap₂, arith}
+use Rattle.std.proofs.Common.{◌≡◌, ℕ, zero, suc, ◌+◌, ◌-◌, ◌<◌, ◌≤◌, Bool, true, false, cond, List, [], ◌∷◌, All, Option, Some, None, IfSome, slice_get, length, refl, ap, ap₂, arith}
 use Rattle.std.proofs.lemmas.List.Elements.{All-nil, All-cons, All-head, All-tail}
 use Rattle.std.proofs.lemmas.Option.{same_Some}
 use Rattle.hw_model.specs.declared.rule.Step.{Step}
@@ -9,7 +9,6 @@ use Rattle.hw_port_laws.proofs.Eachs.{Each}
 use Rattle.hw_port_model.specs.Numbers.{horizon_of}
 use Rattle.hw_audit.specs.PortPlans.{slots_of_rest, slots_of_gone}
 use Rattle.hw_repair.specs.declared.plan.Judged.TheVariants.{FromNow}
-use Rattle.hw_repair.specs.declared.plan.Wish.{Wish}
 use Rattle.hw_repair.specs.Wishes.{GrantsNow, WishFits, is_kept, is_gone}
 use Rattle.hw_audit_timed.specs.declared.event.DayEvent.{DayEvent}
 use Rattle.hw_audit_timed.specs.declared.event.DayEvent.TheVariants as happens

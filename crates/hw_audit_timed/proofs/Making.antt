@@ -1,7 +1,6 @@
 -- A plan that is made event by event, ship by ship and slot by slot.
-use Rattle.std.proofs.Common.{◌≡◌, ◌==◌, ℕ, zero, suc, ◌+◌, ◌-◌, ◌<◌, ◌≤◌, Bool, true, false, cond, List, [], ◌∷◌, ◌++◌, length, take, drop, get_or, Option, Some, None, refl, sym, ap, ◌∙◌, append_assoc, add-one, drop-cons, arith}
-use Rattle.std.proofs.lemmas.List.{take_more, append-nil}
-use Rattle.hw_model.specs.declared.rule.Step.{Step}
+use Rattle.std.proofs.Common.{◌≡◌, ◌==◌, ℕ, suc, ◌+◌, ◌-◌, ◌<◌, Bool, true, false, cond, List, [], ◌∷◌, ◌++◌, length, take, drop, get_or, Option, Some, None, refl, sym, ap, ◌∙◌, append_assoc, add-one, drop-cons, arith}
+use Rattle.std.proofs.lemmas.List.{take_more}
 use Rattle.hw_repair.specs.declared.plan.Wish.{Wish}
 use Rattle.hw_audit_timed.specs.declared.event.DayEvent.{DayEvent}
 use Rattle.hw_audit_timed.specs.Happened.{is_on, if_on, later_of, last_on}

@@ -1,7 +1,6 @@
 -- Which timetables meet the plan that a day leaves.
-use Rattle.std.proofs.Common.{◌≡◌, ℕ, ◌+◌, ◌-◌, ◌<◌, ◌≤◌, false, ◌&&◌, List, All, Some, IfSome, slice_get, length, get_or, refl, sym, ap, ap₂, subst, ◌∙◌, arith}
+use Rattle.std.proofs.Common.{◌≡◌, ℕ, ◌-◌, ◌<◌, ◌≤◌, ◌&&◌, List, Some, IfSome, slice_get, length, get_or, refl, sym, ap, ap₂, ◌∙◌, arith}
 use Rattle.std.proofs.lemmas.List.Elements.{All-weaker}
-use Rattle.std.proofs.lemmas.Option.{get_or_from_slice_get}
 use Rattle.hw_lemmas.proofs.Truths.{if_some, if_some_from}
 use Rattle.hw_lemmas.proofs.Lists.{get_within, has_get}
 use Rattle.hw_model.specs.declared.rule.Step.{Step}
@@ -21,13 +20,11 @@ use Rattle.hw_audit.specs.PortPlans.{PortMeets, BerthIsClearedNow, SailsAfterNow
 use Rattle.hw_audit.proofs.Begun.{of_port}
 use Rattle.hw_audit.proofs.PortPlans.{port_plan}
 use Rattle.hw_audit.proofs.Values.{values_repairable}
-use Rattle.hw_repair.specs.declared.plan.Judged.TheVariants.{FromNow}
 use Rattle.hw_repair.specs.declared.plan.Wish.{Wish}
 use Rattle.hw_repair.specs.Wishes.{GrantsNow, PlanFits, is_gone}
-use Rattle.hw_audit_timed.specs.declared.event.DayEvent.{DayEvent}
 use Rattle.hw_audit_timed.specs.Happened.{DayParts, last_on, tugs_out}
-use Rattle.hw_audit_timed.specs.Carried.{changes, out_from, wish_by, wishes_from, gone_by, gone_from, carried_plan, KeepsDay, Leaves}
-use Rattle.hw_audit_timed.specs.Laws.{TugsAsSaid, KeepsPortDay, KeepsTheDay}
+use Rattle.hw_audit_timed.specs.Carried.{out_from, wish_by, wishes_from, gone_by, gone_from, carried_plan}
+use Rattle.hw_audit_timed.specs.Laws.{KeepsTheDay}
 use Rattle.hw_audit_timed.proofs.Left.{grants_from, leaves_from, open_from, wish_at, gone_at, wishes_many, gone_many, gone_alike, rest_alike, sailed_alike, wishes_fit}
 use Rattle.hw_audit_timed.proofs.Outs.{changes_fit, in_changes}
 use Rattle.hw_audit_timed.proofs.Taken.{DayCan, EventFits, day_can, last_fits}

@@ -1,5 +1,5 @@
 -- What is known of events that are all taken: each one fits, and the tugs are there.
-use Rattle.std.proofs.Common.{◌≡◌, ℕ, ◌+◌, ◌-◌, ◌<◌, ◌≤◌, Bool, true, false, cond, not, nat_lt, List, [], ◌∷◌, ◌++◌, Option, Some, None, IfSome, sum_by, refl, subst, sym, ◌∙◌, append_assoc, arith}
+use Rattle.std.proofs.Common.{◌≡◌, ℕ, ◌+◌, ◌-◌, ◌<◌, ◌≤◌, Bool, true, false, cond, not, nat_lt, List, [], ◌∷◌, ◌++◌, Option, Some, None, IfSome, sum_by, refl, subst, sym, append_assoc, arith}
 use Rattle.std.specs.Prelude.{⊤}
 use Rattle.std.specs.List.{list_any, range_with_len}
 use Rattle.std.proofs.lemmas.Bool.{ltb-true, ltb-false, leb-true}
@@ -14,7 +14,7 @@ use Rattle.hw_audit_timed.specs.declared.event.DayEvent.{DayEvent}
 use Rattle.hw_audit_timed.specs.declared.event.DayEvent.TheVariants as happens
 use Rattle.hw_audit_timed.specs.declared.fault.DayWord.{DayWord}
 use Rattle.hw_audit_timed.specs.declared.fault.DayWord.TheVariants as words
-use Rattle.hw_audit_timed.specs.Happened.{DayParts, is_on, if_on, later_of, last_on, more_out, more_back, tugs_out}
+use Rattle.hw_audit_timed.specs.Happened.{DayParts, is_on, later_of, last_on, more_out, more_back, tugs_out}
 use Rattle.hw_audit_timed.specs.Refused.{refused_ship, or_then, too_many_out, too_many_back, refused_tugs, refused_by, refused_after, first_refused, refused_day}
 
 -- ---- tests

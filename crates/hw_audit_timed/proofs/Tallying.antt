@@ -1,5 +1,5 @@
 -- A tally of events: what one more event changes, and by what it is refused.
-use Rattle.std.proofs.Common.{◌≡◌, ◌≢◌, ◌==◌, ℕ, zero, suc, ◌+◌, ◌-◌, ◌<◌, ◌≤◌, Bool, true, false, cond, not, ◌||◌, nat_le, nat_lt, List, [], ◌∷◌, ◌++◌, length, replicate, set, take, drop, get_or, Option, Some, None, sum_by, refl, sym, ap, ap₂, subst, ◌∙◌, inl, inr, arith, get_or-set_other, get_or-set_same, drop-cons, length-set}
+use Rattle.std.proofs.Common.{◌≡◌, ◌==◌, ℕ, zero, suc, ◌+◌, ◌-◌, ◌<◌, ◌≤◌, Bool, true, false, cond, not, ◌||◌, nat_lt, List, [], ◌∷◌, ◌++◌, length, replicate, set, take, drop, get_or, Option, Some, None, refl, sym, ap, ap₂, subst, ◌∙◌, inl, inr, arith, get_or-set_other, get_or-set_same, drop-cons}
 use Rattle.std.proofs.lemmas.Bool.{cases_eq, ltb-true, ne_eqb, eq-eqb}
 use Rattle.std.proofs.lemmas.List.{get_or-replicate, length-replicate, take_more, drop_all}
 use Rattle.std.proofs.lemmas.List.Folds.{list_any-append}
@@ -11,10 +11,10 @@ use Rattle.hw_audit_timed.specs.declared.event.DayEvent.{DayEvent}
 use Rattle.hw_audit_timed.specs.declared.event.DayEvent.TheVariants as happens
 use Rattle.hw_audit_timed.specs.declared.fault.DayWord.{DayWord}
 use Rattle.hw_audit_timed.specs.declared.fault.DayWord.TheVariants as words
-use Rattle.hw_audit_timed.specs.Happened.{DayParts, is_sailing, has_sailed, more_out, more_back, tugs_out}
-use Rattle.hw_audit_timed.specs.Refused.{refused_ship, or_then, too_many_out, too_many_back, refused_tugs, refused_by, refused_after, first_refused, refused_day}
-use Rattle.hw_audit_timed.specs.Tallies.{TallyParts, marked, counted_out, HasSizes, Notes, IsTally}
-use Rattle.hw_audit_timed.proofs.Taken.{AreThere, tugs_fit, there_after, none_there}
+use Rattle.hw_audit_timed.specs.Happened.{is_sailing, has_sailed, more_out, more_back, tugs_out}
+use Rattle.hw_audit_timed.specs.Refused.{refused_ship, or_then, refused_tugs, refused_by, refused_after, first_refused}
+use Rattle.hw_audit_timed.specs.Tallies.{TallyParts, marked, counted_out, Notes, IsTally}
+use Rattle.hw_audit_timed.proofs.Taken.{AreThere}
 
 -- ---- before any event
 

@@ -1,5 +1,5 @@
 -- Days of a small yard with what was worked out for them by hand.
-use Rattle.std.specs.Prelude.{◌≡◌, ℕ, List, [], ◌∷◌, Some, None, Ok, Err, codes}
+use Rattle.std.specs.Prelude.{◌≡◌, List, [], ◌∷◌, Some, None, Ok, Err, codes}
 use Rattle.hw_repair.specs.TimedRows.{yard}
 use Rattle.hw_repair.specs.Written.{written_plan}
 use Rattle.hw_audit_timed.specs.declared.event.DayEvent.{DayEvent}

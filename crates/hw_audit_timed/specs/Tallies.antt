@@ -1,5 +1,5 @@
 -- What is kept of events: which ships sailed, and how many tugs are out in each sailing slot.
-use Rattle.std.specs.Prelude.{◌≡◌, ℕ, ◌+◌, ◌-◌, ◌<◌, Bool, false, ◌||◌, List, [], length, None, Some, Result, Ok, Err, slice_index, slice_index_or, ⊤}
+use Rattle.std.specs.Prelude.{◌≡◌, ℕ, ◌+◌, ◌-◌, ◌<◌, Bool, false, ◌||◌, List, length, None, Some, Result, Ok, Err, slice_index, slice_index_or, ⊤}
 use Rattle.hw_model.specs.Problem.{Problem, horizon}
 use Rattle.hw_plan_texts.specs.declared.fault.LineFault.{LineFault}
 use Rattle.hw_plan_texts.specs.declared.fault.LineFault.TheVariants as faults

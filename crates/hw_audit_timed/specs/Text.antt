@@ -1,6 +1,5 @@
 -- The text of a day's events, over the list of its lines.
-use Rattle.std.specs.Prelude.{ℕ, ◌+◌, List, [], ◌∷◌, Bool, Option, Some, None, Result, Ok, codes, bytes_eq, length, if◌then◌else◌}
-use Rattle.std.specs.Option.{option_map_or}
+use Rattle.std.specs.Prelude.{ℕ, ◌+◌, List, [], ◌∷◌, Option, Some, None, Result, Ok, codes, bytes_eq, length, if◌then◌else◌}
 use Rattle.hw_lemmas.specs.Operators.{◌>>=◌}
 use Rattle.hw_plan_texts.specs.Reading.{MalformedLine, malformed_line, formed_line, formed_line_at, only_at, ended_at}
 use Rattle.hw_text.specs.Parts.{parts_of, words_of}

@@ -1,4 +1,4 @@
-use Rattle.std.proofs.Common.{◌≡◌, ℕ, ◌++◌, ◌-◌, get_or}
+use Rattle.std.proofs.Common.{◌≡◌, ◌++◌, ◌-◌, get_or}
 use Rattle.hw_audit_timed.specs.Carried.{changes}
 use Rattle.hw_audit_timed.proofs.carrying.changes.Given as goal
 

@@ -1,4 +1,4 @@
-use Rattle.std.proofs.Common.{◌≡◌, ℕ, ◌-◌, nat_lt, length, get_or}
+use Rattle.std.proofs.Common.{◌≡◌, ◌-◌, nat_lt, length, get_or}
 use Rattle.std.specs.List.{list_any, range_with_len}
 use Rattle.hw_audit_timed.proofs.tally.too_many_back.Given as goal
 
