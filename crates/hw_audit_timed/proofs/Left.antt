@@ -56,14 +56,14 @@ pub wish_at : (now v i k published : ℕ) (events : List DayEvent) (table : List
 wish_at now v i k published events [] at e = absurd cc
 wish_at now v zero k published events (x ∷ table) at e =
     let here : v ≡ k = omega (arith, at) in
-    ap₂ (λ n ship. Some (wish_by now n (last_on ship events))) (same_Some x published e) here
+    ap₂ (λ (n : ℕ) (ship : ℕ). Some (wish_by now n (last_on ship events))) (same_Some x published e) here
 wish_at now v (suc i) k published events (x ∷ table) at e = wish_at now (v + 1) i k published events table (omega (arith, at)) e
 
 pub gone_at : (v i k published : ℕ) (events : List DayEvent) (table : List ℕ) → k ≡ v + i → slice_get table i ≡ Some published → slice_get (gone_from events v table) i ≡ Some (gone_by (last_on k events))
 gone_at v i k published events [] at e = absurd cc
 gone_at v zero k published events (x ∷ table) at e =
     let here : v ≡ k = omega (arith, at) in
-    ap (λ ship. Some (gone_by (last_on ship events))) here
+    ap (λ (ship : ℕ). Some (gone_by (last_on ship events))) here
 gone_at v (suc i) k published events (x ∷ table) at e = gone_at (v + 1) i k published events table (omega (arith, at)) e
 
 pub wishes_many : (now v : ℕ) (events : List DayEvent) (table : List ℕ) → length (wishes_from now events v table) ≡ length table

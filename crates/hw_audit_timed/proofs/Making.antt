@@ -33,7 +33,7 @@ last_next ship events place d lt =
 pub wishes_next : (now ship : ℕ) (events : List DayEvent) (table : List ℕ) (front : List Wish) → ship < length table
     → (front ++ wish_by now (get_or table ship 0) (last_on ship events) ∷ []) ++ wishes_from now events (ship + 1) (drop (ship + 1) table) ≡ front ++ wishes_from now events ship (drop ship table)
 wishes_next now ship events table front lt =
-    let rest : drop ship table ≡ get_or table ship 0 ∷ drop (ship + 1) table = rw add-one (drop-cons table ship 0) in
+    let rest : drop ship table ≡ get_or table ship 0 ∷ drop (ship + 1) table = rw add-one (drop-cons table ship 0 lt) in
     append_assoc front (wish_by now (get_or table ship 0) (last_on ship events) ∷ []) (wishes_from now events (ship + 1) (drop (ship + 1) table))
     ∙ ap (λ (slots : List ℕ). front ++ wishes_from now events ship slots) (sym rest)
 

@@ -1,5 +1,5 @@
 -- What is known of events that are all taken: each one fits, and the tugs are there.
-use Rattle.std.proofs.Common.{◌≡◌, ℕ, ◌+◌, ◌-◌, ◌<◌, ◌≤◌, Bool, true, false, cond, not, nat_lt, List, [], ◌∷◌, ◌++◌, Option, Some, None, IfSome, sum_by, refl, subst, sym, append_assoc, arith}
+use Rattle.std.proofs.Common.{◌≡◌, ℕ, ◌+◌, ◌-◌, ◌<◌, ◌≤◌, Bool, true, false, cond, not, nat_le, nat_lt, List, [], ◌∷◌, ◌++◌, Option, Some, None, IfSome, sum_by, refl, subst, sym, append_assoc, arith}
 use Rattle.std.specs.Prelude.{⊤}
 use Rattle.std.specs.List.{list_any, range_with_len}
 use Rattle.std.proofs.lemmas.Bool.{ltb-true, ltb-false, leb-true}
@@ -14,7 +14,7 @@ use Rattle.hw_audit_timed.specs.declared.event.DayEvent.{DayEvent}
 use Rattle.hw_audit_timed.specs.declared.event.DayEvent.TheVariants as happens
 use Rattle.hw_audit_timed.specs.declared.fault.DayWord.{DayWord}
 use Rattle.hw_audit_timed.specs.declared.fault.DayWord.TheVariants as words
-use Rattle.hw_audit_timed.specs.Happened.{DayParts, is_on, later_of, last_on, more_out, more_back, tugs_out}
+use Rattle.hw_audit_timed.specs.Happened.{DayParts, is_on, later_of, last_on, has_sailed, more_out, more_back, tugs_out}
 use Rattle.hw_audit_timed.specs.Refused.{refused_ship, or_then, too_many_out, too_many_back, refused_tugs, refused_by, refused_after, first_refused, refused_day}
 
 -- ---- tests
@@ -100,8 +100,8 @@ pub tugs_fit : (f : Problem) (fleet now slot : ℕ) (sailed : ℕ → Bool) (out
 tugs_fit f fleet now slot sailed outs (happens.Sailed ship from) e few lt = record { there = omega arith; few = omega (arith, few) }
 tugs_fit f fleet now slot sailed outs (happens.Delayed ship from) e few lt = record { there = omega arith; few = omega (arith, few) }
 tugs_fit f fleet now slot sailed outs (happens.Fixed ship from) e few lt = record { there = omega arith; few = omega (arith, few) }
-tugs_fit f fleet now slot sailed outs (happens.Out count from) e few lt = tugs_of_out fleet count (outs slot) from slot (horizon f) outs refl few lt e _ (leb-true from slot)
-tugs_fit f fleet now slot sailed outs (happens.Back count from) e few lt = tugs_of_back fleet count (outs slot) from slot (horizon f) outs refl few lt e _ (leb-true from slot)
+tugs_fit f fleet now slot sailed outs (happens.Out count from) e few lt = tugs_of_out fleet count (outs slot) from slot (horizon f) outs refl few lt e (nat_le from slot) (leb-true from slot)
+tugs_fit f fleet now slot sailed outs (happens.Back count from) e few lt = tugs_of_back fleet count (outs slot) from slot (horizon f) outs refl few lt e (nat_le from slot) (leb-true from slot)
 
 pub none_there : (fleet slot : ℕ) → AreThere fleet [] slot
 none_there fleet slot = record { some = omega arith; few = omega arith }
@@ -118,13 +118,13 @@ pub all_fit : (f : Problem) (fleet now line : ℕ) (before events : List DayEven
 all_fit f fleet now line before [] e = tt
 all_fit f fleet now line before (event ∷ events) e =
     let two = none_of_two line (refused_after f fleet now before event) (first_refused f fleet now (line + 1) (before ++ event ∷ []) events) e in
-    (event_fits f fleet now _ _ event two.0, all_fit f fleet now (line + 1) (before ++ event ∷ []) events two.1)
+    (event_fits f fleet now (has_sailed before) (tugs_out before) event two.0, all_fit f fleet now (line + 1) (before ++ event ∷ []) events two.1)
 
 pub all_there : (f : Problem) (fleet now line slot : ℕ) (before events : List DayEvent) → slot < horizon f → AreThere fleet before slot → first_refused f fleet now line before events ≡ None → AreThere fleet (before ++ events) slot
 all_there f fleet now line slot before [] lt is e = subst (λ es. AreThere fleet es slot) (sym (append-nil before)) is
 all_there f fleet now line slot before (event ∷ events) lt is e =
     let two = none_of_two line (refused_after f fleet now before event) (first_refused f fleet now (line + 1) (before ++ event ∷ []) events) e in
-    let next = there_after fleet slot before event is (tugs_fit f fleet now slot _ _ event two.0 is.few lt) in
+    let next = there_after fleet slot before event is (tugs_fit f fleet now slot (has_sailed before) (tugs_out before) event two.0 is.few lt) in
     subst (λ es. AreThere fleet es slot) (append_assoc before (event ∷ []) events) (all_there f fleet now (line + 1) slot (before ++ event ∷ []) events lt next two.1)
 
 later_fits : (P : DayEvent → Type 0) (b : Bool) (event : DayEvent) (last : Option DayEvent) → P event → IfSome last P → IfSome (later_of (cond b (Some event) None) last) P

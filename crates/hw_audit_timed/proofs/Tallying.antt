@@ -1,5 +1,5 @@
 -- A tally of events: what one more event changes, and by what it is refused.
-use Rattle.std.proofs.Common.{◌≡◌, ◌==◌, ℕ, zero, suc, ◌+◌, ◌-◌, ◌<◌, ◌≤◌, Bool, true, false, cond, not, ◌||◌, nat_lt, List, [], ◌∷◌, ◌++◌, length, replicate, set, take, drop, get_or, Option, Some, None, refl, sym, ap, ap₂, subst, ◌∙◌, inl, inr, arith, get_or-set_other, get_or-set_same, drop-cons}
+use Rattle.std.proofs.Common.{◌≡◌, ◌==◌, ℕ, zero, suc, ◌+◌, ◌-◌, ◌<◌, ◌≤◌, Bool, true, false, cond, not, ◌||◌, nat_lt, List, [], ◌∷◌, ◌++◌, length, replicate, set, take, drop, get_or, Option, Some, None, refl, sym, ap, ap₂, subst, ◌∙◌, inl, inr, arith, get_or-set_other, get_or-set_same, add-one, drop-cons}
 use Rattle.std.proofs.lemmas.Bool.{cases_eq, ltb-true, ne_eqb, eq-eqb}
 use Rattle.std.proofs.lemmas.List.{get_or-replicate, length-replicate, take_more, drop_all}
 use Rattle.std.proofs.lemmas.List.Folds.{list_any-append}
@@ -86,7 +86,7 @@ from_here f fleet now events place = first_refused f fleet now (place + 3) (take
 next_is : (f : Problem) (fleet now : ℕ) (events : List DayEvent) (place : ℕ) (d : DayEvent) → place < length events
     → from_here f fleet now events place ≡ refused_or (place + 3) (refused_after f fleet now (take place events) (get_or events place d)) (from_here f fleet now events (place + 1))
 next_is f fleet now events place d lt =
-    let rest : drop place events ≡ get_or events place d ∷ drop (place + 1) events = rw add-one (drop-cons events place d) in
+    let rest : drop place events ≡ get_or events place d ∷ drop (place + 1) events = rw add-one (drop-cons events place d lt) in
     let line : place + 3 + 1 ≡ place + 1 + 3 = omega arith in
     rw (rest, take_more events place d lt, line) refl
 

@@ -9,7 +9,7 @@ use Rattle.hw_audit_timed.specs.declared.fault.DayWord.{DayWord}
 use Rattle.hw_audit_timed.specs.declared.fault.DayWord.TheVariants as words
 use Rattle.hw_audit_timed.specs.Happened.{DayParts, has_sailed, tugs_out}
 
--- why an event that gives a ship this slot, of so many, is refused: there is no such ship; it has sailed by the events before; or there is no such slot
+-- why an event that gives a ship this slot is refused, where there are this many slots: there is no such ship; it has sailed by the events before; or there is no such slot
 abbrev pub refused_ship : Problem → (ℕ → Bool) → ℕ → ℕ → ℕ → Option DayWord
 refused_ship f sailed slots ship slot =
     if not (nat_lt ship f.ships) then Some words.Range

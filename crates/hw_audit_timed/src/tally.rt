@@ -37,7 +37,7 @@ fn no_tally(alloc: Global, flat: &Flat) -> Result<Tally, NoMemory>
     Ok(Tally { sailed, out })
 }
 
-/// Why an event that gives a ship this slot, of so many, is refused, or none.
+/// Why an event that gives a ship this slot is refused, where there are `slots` of them, or none.
 fn refused_ship(
     flat: &Flat,
     sailed: &[bool],
