@@ -120,7 +120,7 @@ module _ (p : Parts) (h : TideParts) (now : ℕ) (out : List Step) (wishes : Lis
       | inr other ↦ elim other [
         | inl lt ↦ never_meet p s r x y (ship_kept p v s kept sv.ship) (ship_kept p w r kept sw.ship) opposite (pair_gives p h table v w s r x y (pairs v w s r lt sv.ship sw.ship some) sv sw) section slot first second
         | inr gt ↦ never_meet p r s y x (ship_kept p w r kept sw.ship) (ship_kept p v s kept sv.ship) (alike_turned r s ∙ opposite)
-          (pair_gives p h table w v r s y x (pairs w v r s gt sw.ship sv.ship (other_way (is_gone wishes v) (is_gone wishes w) some)) sw sv) section slot second first
+            (pair_gives p h table w v r s y x (pairs w v r s gt sw.ship sv.ship (other_way (is_gone wishes v) (is_gone wishes w) some)) sw sv) section slot second first
       ]
     ];
     separated = λ v w s r x y ne some sv sw same. elim (cases_order v w) [
@@ -128,7 +128,7 @@ module _ (p : Parts) (h : TideParts) (now : ℕ) (out : List Step) (wishes : Lis
       | inr other ↦ elim other [
         | inl lt ↦ apart_from p s r x y kept (ship_kept p v s kept sv.ship) (ship_kept p w r kept sw.ship) same (pair_gives p h table v w s r x y (pairs v w s r lt sv.ship sw.ship some) sv sw)
         | inr gt ↦ turned (apart_from p r s y x kept (ship_kept p w r kept sw.ship) (ship_kept p v s kept sv.ship) (alike_turned r s ∙ same)
-          (pair_gives p h table w v r s y x (pairs w v r s gt sw.ship sv.ship (other_way (is_gone wishes v) (is_gone wishes w) some)) sw sv))
+            (pair_gives p h table w v r s y x (pairs w v r s gt sw.ship sv.ship (other_way (is_gone wishes v) (is_gone wishes w) some)) sw sv))
       ]
     ];
     berths = all_of_each (BerthIsClearedNow p wishes table) p.berths (each_weaker (λ b. Keeps (berth_rule b)) (BerthIsClearedNow p wishes table) p.berths (λ b holds some. from_berth p h table b listed (holds some)) (map_each Keeps berth_rule p.berths parts.1.0));

@@ -165,12 +165,7 @@ fn note(flat: &Flat, fleet: u32, now: Slot, tally: &mut Tally, event: DayEvent)
 /// Tries the time and the events of a day in their order, and counts what they say. Fails with the
 /// line of the first one that can't be. It takes a step for each event, and of one on tugs for each
 /// sailing slot.
-pub(crate) fn tally_of(
-    alloc: Global,
-    flat: &Flat,
-    fleet: u32,
-    day: &Day,
-) -> Result<Tally, DayFault>
+pub(crate) fn tally_of(alloc: Global, flat: &Flat, fleet: u32, day: &Day) -> Result<Tally, DayFault>
     ensures { TalliesDay flat.now fleet day.now result }
 {
     if day.now >= flat.horizon() {
