@@ -105,10 +105,17 @@ abbrev pub ship_line : Problem → Naming → ℕ → ℕ → List ℕ
 ship_line f by_number ship slot = number_line f ship slot
 ship_line f (by_name p h) ship slot = named_ship_line p h ship slot
 
--- a ship that has sailed and its slot, by number or by a port's names with the minute in which that begins
+-- a ship that has sailed, and its slot
+abbrev pub gone_number_line : ℕ → ℕ → List ℕ
+gone_number_line ship slot = joined (codes "gone " ∷ decimal slot ∷ codes " " ∷ decimal ship ∷ codes "\n" ∷ [])
+
+-- by a port's names also the minute in which the slot begins
+abbrev pub gone_name_line : Parts → ℕ → ℕ → List ℕ
+gone_name_line p ship slot = joined (codes "gone " ∷ decimal slot ∷ codes " " ∷ decimal (slot * whole p.slot_minutes) ∷ codes " " ∷ name_in p.ships ship ∷ codes "\n" ∷ [])
+
 abbrev pub gone_line : Naming → ℕ → ℕ → List ℕ
-gone_line by_number ship slot = joined (codes "gone " ∷ decimal slot ∷ codes " " ∷ decimal ship ∷ codes "\n" ∷ [])
-gone_line (by_name p h) ship slot = joined (codes "gone " ∷ decimal slot ∷ codes " " ∷ decimal (slot * whole p.slot_minutes) ∷ codes " " ∷ name_in p.ships ship ∷ codes "\n" ∷ [])
+gone_line by_number ship slot = gone_number_line ship slot
+gone_line (by_name p h) ship slot = gone_name_line p ship slot
 
 -- a ship's line, or that it has sailed by the plan
 abbrev pub told_line : Problem → Naming → Option PlanParts → ℕ → ℕ → List ℕ

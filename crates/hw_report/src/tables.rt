@@ -1,10 +1,10 @@
 //! The lines of a timetable.
 
-ghost use Rattle.std.specs.Prelude.{◌≡◌, ◌≤◌, ◌<◌, ◌∷◌, [], IfSome, length, codes, decimal};
+ghost use Rattle.std.specs.Prelude.{◌≡◌, ◌≤◌, ◌<◌, IfSome, length};
 ghost use Rattle.hw_model.specs.Problem.{IsTimetable};
 ghost use Rattle.hw_desk.specs.Writers.{Puts};
 ghost use Rattle.hw_repair.specs.Wishes.{PlanFits};
-ghost use Rattle.hw_report.specs.Lines.{gone_line, told_line, ship_lines, moved_line, table_text};
+ghost use Rattle.hw_report.specs.Lines.{gone_number_line, gone_name_line, gone_line, told_line, ship_lines, moved_line, table_text};
 ghost use Rattle.hw_report.specs.Plans.{is_gone_by};
 ghost use Rattle.hw_report.specs.Printing.{AreNamesOf, IsTableOfProblem};
 ghost use Rattle.hw_report.specs.Seen.{names_seen, plan_seen, table_seen};
@@ -14,6 +14,8 @@ use crate::piece::{Piece, put_pieces};
 use crate::report::Names;
 use hw_desk::Writer;
 use hw_flat::{Flat, ShipId, Slot, Timetable};
+use hw_model::MOST_SLOTS;
+use hw_port::Port;
 use hw_repair::{Judged, Plan, is_gone, moved};
 
 /// Whether the ship has sailed by now, which a plan of the whole day doesn't know.
@@ -29,6 +31,44 @@ fn is_gone_by(plan: Option<&Plan>, ship: ShipId) -> bool
     }
 }
 
+/// Puts that a ship has sailed, by number.
+fn put_gone_number<W: Writer>(out: &mut W, ship: ShipId, slot: Slot)
+    ensures { Puts (gone_number_line ship slot) (W.state out.old) (W.state out.new) }
+{
+    put_pieces(
+        out,
+        &[
+            Piece::Word(b"gone "),
+            Piece::Number(u64::from(slot)),
+            Piece::Word(b" "),
+            Piece::Number(u64::from(ship)),
+            Piece::Word(b"\n"),
+        ],
+    );
+}
+
+/// Puts that a ship has sailed, by a port's names.
+fn put_gone_name<W: Writer>(out: &mut W, port: &Port, ship: ShipId, slot: Slot)
+    requires ship_in { ship < length port.now.ships }
+    requires slot_in { slot ≤ MOST_SLOTS }
+    ensures { Puts (gone_name_line port.now ship slot) (W.state out.old) (W.state out.new) }
+{
+    let parts = port.parts();
+    let minute = minute(slot, parts.slot_minutes);
+    put_pieces(
+        out,
+        &[
+            Piece::Word(b"gone "),
+            Piece::Number(u64::from(slot)),
+            Piece::Word(b" "),
+            Piece::Number(minute),
+            Piece::Word(b" "),
+            Piece::Word(name(&parts.ships, ship)),
+            Piece::Word(b"\n"),
+        ],
+    );
+}
+
 /// Puts that a ship has sailed.
 fn put_gone<W: Writer>(out: &mut W, flat: &Flat, names: Names, ship: ShipId, slot: Slot)
     requires ship_in { ship < flat.now.ships }
@@ -36,19 +76,10 @@ fn put_gone<W: Writer>(out: &mut W, flat: &Flat, names: Names, ship: ShipId, slo
     requires names { AreNamesOf flat.now (names_seen names) }
     ensures { Puts (gone_line (names_seen names.entry) ship slot) (W.state out.old) (W.state out.new) }
 {
-    out.put(b"gone ");
-    out.put_number(u64::from(slot));
-    out.put(b" ");
     match names {
-        Names::Flat => out.put_number(u64::from(ship)),
-        Names::Port { port, .. } => {
-            let parts = port.parts();
-            let minute = minute(slot, parts.slot_minutes);
-            let name = name(&parts.ships, ship);
-            put_pieces(out, &[Piece::Number(minute), Piece::Word(b" "), Piece::Word(name)]);
-        }
+        Names::Flat => put_gone_number(out, ship, slot),
+        Names::Port { port, .. } => put_gone_name(out, port, ship, slot),
     }
-    out.put(b"\n");
 }
 
 /// Puts a ship's line, or that it has sailed by the plan.
