@@ -230,6 +230,9 @@ opened_now now read = Ok (FromNow now read.0, 3 + length read.0, read.1)
 abbrev after_now : ℕ → Parts → ℕ → Result Opening (MalformedLine PlanWord)
 after_now sailing parts now = outs_at 3 now 0 sailing parts >>= opened_now now
 
+timed_by : (f : Problem) (now : ℕ) (read : List Step × Parts) (head : Opening) → now < horizon f → AreOut now 0 (horizon f) read.0 → opened_now now read ≡ Ok head → TimeFits f head.0
+timed_by f now read head low out e = subst (TimeFits f) (judged_equal (FromNow now read.0, 3 + length read.0, read.1) head e) (low, out)
+
 timed_opens : (f : Problem) (parts : Parts) (head : Opening) → IsFlat f → timed_at (horizon f) parts ≡ Ok head → TimeFits f head.0
 unfolding timed_at
 timed_opens f parts head flat e =
@@ -238,8 +241,7 @@ timed_opens f parts head flat e =
     let out = bind_ok (outs_at 3 now.value 0 (horizon f) line.value.1) (opened_now now.value) head now.then' in
     let form = formed_ok 2 words.Now (now_form (horizon f) line.value.0) now.value now.is in
     let some : 0 < horizon f = omega (arith, flat.some_slot) in
-    subst (TimeFits f) (judged_equal (FromNow now.value out.value.0, 3 + length out.value.0, out.value.1) head out.then')
-    (now_below (horizon f) (words_of line.value.0) now.value some form, outs_read 3 now.value 0 (horizon f) line.value.1 out.value some flat.few_slots out.is)
+    timed_by f now.value out.value head (now_below (horizon f) (words_of line.value.0) now.value some form) (outs_read 3 now.value 0 (horizon f) line.value.1 out.value some flat.few_slots out.is) out.then'
 
 by_header : (f : Problem) (first second third : Bool) (parts : Parts) (head : Opening) → IsFlat f
     → cond first (Ok (WholeDay 0, 2, parts)) (cond second (withdrawn_at f.rules parts) (cond third (timed_at (horizon f) parts) (malformed_line 1 words.Header))) ≡ Ok head → TimeFits f head.0

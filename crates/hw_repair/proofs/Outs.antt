@@ -110,7 +110,7 @@ words_are_out least before sailing (key ∷ []) step some small e = absurd cc
 words_are_out least before sailing (key ∷ from ∷ []) step some small e = absurd cc
 words_are_out least before sailing (key ∷ from ∷ count ∷ []) step some small e =
     by_words least before sailing (number_from_to least (sailing - 1) from) (number_up_to 1_000 count) step some
-    (λ n h. (from_to_is least (sailing - 1) from n (omega (arith, small)) h).1)
+    (λ n h. let r = from_to_is least (sailing - 1) from n (omega (arith, small)) h in (r.1, r.2))
     (λ n h. (is_spelled 1_000 count n (lit< tt) h).1)
     e
 words_are_out least before sailing (key ∷ from ∷ count ∷ x ∷ xs) step some small e = absurd cc

@@ -136,7 +136,7 @@ wish_small f (FromNow now out) (Planned slot from) flat time fits = (omega (arit
 wish_small f (FromNow now out) (New from) flat time fits = omega (arith, fits, flat.few_slots)
 
 wide : (n : ℕ) → n ≤ 1_000 → n < 2 ^ 64
-wide n le = omega (arith, le, lit< {1_000} {2 ^ 64} tt)
+wide n le = omega (arith, le)
 
 -- ---- wishes
 
@@ -209,7 +209,7 @@ none_large p a zero none = refl
 none_large p a (suc n) none = rw (none a, none_large p (a + 1) n none) refl
 
 small : (f : Problem) (plan : PlanParts) (ship : ℕ) → IsFlat f → PlanFits f plan → is_large f ship ≡ false
-small f plan ship flat fits = none_large (λ slot. nat_lt 1_000_000_000_000 (unwrap_or (value_at f ship slot) 0 * (f.ships + 1) + 1)) 0 f.slots (λ slot. le-ltb _ _ (value_repairable f plan ship slot flat.few_ships fits))
+small f plan ship flat fits = none_large (λ slot. nat_lt 1_000_000_000_000 (unwrap_or (value_at f ship slot) 0 * (f.ships + 1) + 1)) 0 f.slots (λ slot. le-ltb _ _ (value_repairable f ship slot flat.few_ships fits.each_value))
 
 -- ---- the lines in order
 

@@ -1,5 +1,5 @@
 -- The laws of a plan's repair.
-use Rattle.std.specs.Prelude.{◌≡◌, ◌↔◌, ℕ, ◌+◌, ◌-◌, ◌*◌, ◌<◌, ◌≤◌, List, [], length, All, true, false, Some, Ok, IfSome, IsSome, IsTrue, slice_get, slice_index, map, ⊤}
+use Rattle.std.specs.Prelude.{◌≡◌, ◌↔◌, ◌⊎◌, ℕ, ◌+◌, ◌-◌, ◌*◌, ◌<◌, ◌≤◌, List, [], length, All, true, false, Some, Ok, IfSome, IsSome, IsTrue, slice_get, slice_index, map, ⊤}
 use Rattle.std.specs.List.{list_all}
 use Rattle.hw_model.specs.declared.limits.TheConstants.{MOST_PLAIN_FLEET}
 use Rattle.hw_model.specs.declared.rule.Step.{Step}
