@@ -1,7 +1,7 @@
 //! What a timetable carries by a plan, and what a cargo of the repair's problem stands for. Cargo is
 //! in tenths of a tonne.
 
-ghost use Rattle.std.specs.Prelude.{◌≡◌, ◌<◌, ◌≤◌, IfSome, unwrap_or};
+ghost use Rattle.std.specs.Prelude.{◌≡◌, ◌+◌, ◌%◌, ◌<◌, ◌≤◌, IfSome, length, unwrap_or};
 ghost use Rattle.hw_model.specs.Problem.{IsTimetable};
 ghost use Rattle.hw_repair.specs.Repaired.{own_cargo, own_moved};
 ghost use Rattle.hw_repair.specs.Wishes.{plan_cargo, rest_cargo_from, rest_value};
@@ -65,11 +65,17 @@ pub fn own_cargo(plan: &Plan, cargo: u64) -> u64
     if cargo <= ships { 0 } else { cargo / (ships + 1) }
 }
 
+/// What is left of a cargo of the repair's problem, beside the parts that are the cargo by the plan.
+fn rest_of(plan: &Plan, cargo: u64) -> u64
+    ensures { result ≡ cargo % (length plan.now.wishes + 1) }
+{
+    let ships = plan.wishes.len() as u64;
+    if cargo <= ships { cargo } else { cargo % (ships + 1) }
+}
+
 /// The number of moved ships for which a cargo of the repair's problem stands.
 pub fn own_moved(plan: &Plan, cargo: u64) -> u64
     ensures { result ≡ own_moved plan.now cargo }
 {
-    let ships = plan.wishes.len() as u64;
-    let rest = if cargo <= ships { cargo } else { cargo % (ships + 1) };
-    (counted(plan) as u64).saturating_sub(rest)
+    (counted(plan) as u64).saturating_sub(rest_of(plan, cargo))
 }

@@ -3,6 +3,7 @@
 ghost use Rattle.std.specs.Prelude.{◌≡◌, ◌≤◌, ◌<◌, IfSome, length};
 ghost use Rattle.hw_model.specs.Problem.{IsTimetable};
 ghost use Rattle.hw_desk.specs.Writers.{Puts};
+ghost use Rattle.hw_port_model.specs.Numbers.{horizon_of};
 ghost use Rattle.hw_repair.specs.Wishes.{PlanFits};
 ghost use Rattle.hw_report.specs.Lines.{gone_number_line, gone_name_line, gone_line, told_line, ship_lines, moved_line, table_text};
 ghost use Rattle.hw_report.specs.Plans.{is_gone_by};
@@ -14,7 +15,6 @@ use crate::piece::{Piece, put_pieces};
 use crate::report::Names;
 use hw_desk::Writer;
 use hw_flat::{Flat, ShipId, Slot, Timetable};
-use hw_model::MOST_SLOTS;
 use hw_port::Port;
 use hw_repair::{Judged, Plan, is_gone, moved};
 
@@ -50,7 +50,7 @@ fn put_gone_number<W: Writer>(out: &mut W, ship: ShipId, slot: Slot)
 /// Puts that a ship has sailed, by a port's names.
 fn put_gone_name<W: Writer>(out: &mut W, port: &Port, ship: ShipId, slot: Slot)
     requires ship_in { ship < length port.now.ships }
-    requires slot_in { slot ≤ MOST_SLOTS }
+    requires slot_in { slot ≤ horizon_of port.now }
     ensures { Puts (gone_name_line port.now ship slot) (W.state out.old) (W.state out.new) }
 {
     let parts = port.parts();
