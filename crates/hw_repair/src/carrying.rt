@@ -62,7 +62,11 @@ pub fn own_cargo(plan: &Plan, cargo: u64) -> u64
     ensures { result ≡ own_cargo plan.now cargo }
 {
     let ships = plan.wishes.len() as u64;
-    if cargo <= ships { 0 } else { cargo / (ships + 1) }
+    if cargo <= ships {
+        0
+    } else {
+        cargo / (ships + 1)
+    }
 }
 
 /// What is left of a cargo of the repair's problem, beside the parts that are the cargo by the plan.
@@ -70,7 +74,11 @@ fn rest_of(plan: &Plan, cargo: u64) -> u64
     ensures { result ≡ cargo % (length plan.now.wishes + 1) }
 {
     let ships = plan.wishes.len() as u64;
-    if cargo <= ships { cargo } else { cargo % (ships + 1) }
+    if cargo <= ships {
+        cargo
+    } else {
+        cargo % (ships + 1)
+    }
 }
 
 /// The number of moved ships for which a cargo of the repair's problem stands.
