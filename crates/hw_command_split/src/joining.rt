@@ -56,7 +56,7 @@ pub fn join_subject<D: Desk>(
         Ending::Stopped(stopped) => {
             finish(desk, &check_report(stopped, None, None, given.names()))
         }
-        Ending::Sent(joined) => { finish_joined(desk, &joined, given.plan(), given.names()) }
+        Ending::Sent(joined) => finish_joined(desk, &joined, given.plan(), given.names()),
         Ending::WriteFailed => Status::WriteFault,
     }
 }
