@@ -17,7 +17,7 @@ use Rattle.hw_command.specs.Certificates.{cert_outcome_to, report_of}
 use Rattle.hw_command.specs.Keeping.{complete_lines}
 use Rattle.hw_command.specs.declared.outcome.CertOutcome.{CertOutcome}
 use Rattle.hw_command.specs.declared.outcome.CertOutcome.TheVariants.{Shows, Wrong, TooLong}
-use Rattle.hw_subject.specs.Meanings.{judged, repair_ships}
+use Rattle.hw_subject.specs.Meanings.{judged}
 use Rattle.hw_subject.specs.Subjects.{Origin}
 use Rattle.hw_subject.specs.Decided.{IsDecided, IsReported, ReportedBy, certified}
 use Rattle.hw_subject.specs.Shown.{Refused, Shown}
@@ -60,14 +60,14 @@ by_text origin plan {held = held} {cert = cert} {bytes = bytes} cert_told says =
       report = ap whole_text (says.is_text ∙ ap (λ (p : PlanParts). repair_text (s.problem v) (s.naming v) p says.table) (same_Some says.plan v.plan (sym says.planned))) ∙ shown_told origin plan held cert bytes says.shows says.bound (Some says.table) v cert_told says.shown;
     }
 
-by_none : (origin : Origin) (plan : List ℕ) {held : List ℕ → Option (List ℕ)} {cert bytes : List ℕ} {w : Verdict} {bound ships : Option ℕ} {names : Naming} → held cert ≡ Some bytes → ShowsNone (subject_by origin plan) cert held w bound ships names → ReportedBy (subject_by origin plan) held (told_by origin plan bytes) (checked w bound ships names)
-by_none origin plan {held = held} {cert = cert} {bytes = bytes} {w = w} {bound = bound} {ships = ships} cert_told says =
+by_none : (origin : Origin) (plan : List ℕ) {held : List ℕ → Option (List ℕ)} {cert bytes : List ℕ} {w : Verdict} {bound : Option ℕ} {told : Option PlanParts} {names : Naming} → held cert ≡ Some bytes → ShowsNone (subject_by origin plan) cert held w bound told names → ReportedBy (subject_by origin plan) held (told_by origin plan bytes) (checked w bound told names)
+by_none origin plan {held = held} {cert = cert} {bytes = bytes} {w = w} {bound = bound} {told = told} cert_told says =
     let s = subject_by origin plan in
     let v = says.value in
     record {
       value = v;
       reads = says.reads;
-      report = ap (λ (n : Naming). checked w bound ships n) says.naming ∙ ap (λ (n : Option ℕ). checked w bound n (s.naming v)) says.counted ∙ shown_told origin plan held cert bytes w bound None v cert_told says.shown;
+      report = ap (checked w bound told) says.naming ∙ ap (λ (o : Option PlanParts). checked w bound o (s.naming v)) says.planned ∙ shown_told origin plan held cert bytes w bound None v cert_told says.shown;
     }
 
 by_outcome : (origin : Origin) (plan : List ℕ) {held : List ℕ → Option (List ℕ)} {cert bytes : List ℕ} {o : CertOutcome} {r : Report} → held cert ≡ Some bytes → (says : Refused (subject_by origin plan) Three cert held o) → r ≡ outcome_told ((subject_by origin plan).naming says.value) ((subject_by origin plan).problem says.value) says.value.plan bytes o → ReportedBy (subject_by origin plan) held (told_by origin plan bytes) r
@@ -78,7 +78,7 @@ by_outcome origin plan {bytes = bytes} {o = o} told says is =
 
 pub decided : (origin : Origin) (plan cert bytes : List ℕ) (held : List ℕ → Option (List ℕ)) (r : Report) → held cert ≡ Some bytes → ExplainsRepair (subject_by origin plan) cert held r → IsReported (subject_by origin plan) held (told_by origin plan bytes) r
 decided origin plan cert bytes held (whole_text told) is says = inr (by_text origin plan is says)
-decided origin plan cert bytes held (checked w bound ships names) is says = inr (by_none origin plan is says)
+decided origin plan cert bytes held (checked w bound told names) is says = inr (by_none origin plan is says)
 decided origin plan cert bytes held (refused number word hint) is says = inr (by_outcome origin plan is says refl)
 decided origin plan cert bytes held (too_long Certificate) is says = inr (by_outcome origin plan is says refl)
 decided origin plan cert bytes held r is says = inl says
@@ -93,18 +93,18 @@ one_explanation_law origin plan cert held r t all told h g =
 -- ---- as it is verified
 
 -- of one outcome
-table_alike : (names : Naming) (f : Problem) (plan : PlanParts) (w : Verdict) (bound : Option ℕ) (table : Option (List ℕ)) → IsTextFor (checked w bound (repair_ships f (Some plan)) names) (told_report names f (Some plan) w bound table)
+table_alike : (names : Naming) (f : Problem) (plan : PlanParts) (w : Verdict) (bound : Option ℕ) (table : Option (List ℕ)) → IsTextFor (checked w bound (Some plan) names) (told_report names f (Some plan) w bound table)
 table_alike names f plan w bound None = inl refl
 table_alike names f plan w bound (Some table) = inr (repair_text f names plan table, refl)
 
-outcome_alike : (names : Naming) (f : Problem) (plan : PlanParts) (bytes : List ℕ) (o : CertOutcome) → IsTextFor (report_of names (cert_bound Three (repaired f plan) bytes) (repair_ships f (Some plan)) o) (outcome_told names f plan bytes o)
+outcome_alike : (names : Naming) (f : Problem) (plan : PlanParts) (bytes : List ℕ) (o : CertOutcome) → IsTextFor (report_of names (cert_bound Three (repaired f plan) bytes) (Some plan) o) (outcome_told names f plan bytes o)
 outcome_alike names f plan bytes (Shows w) = table_alike names f plan w (cert_bound Three (repaired f plan) bytes) (cert_table (repaired f plan) bytes)
 outcome_alike names f plan bytes (Wrong number word hint) = refl
 outcome_alike names f plan bytes TooLong = refl
 
 -- a refusal is the same
 refusal_alike : (origin : Origin) (plan : List ℕ) (held : List ℕ → Option (List ℕ)) (c : Report) → (subject_by origin plan).Refuses held c → IsTextFor c c
-refusal_alike origin plan held (checked w bound ships names) h = inl refl
+refusal_alike origin plan held (checked w bound told names) h = inl refl
 refusal_alike origin plan held c h = refl
 
 alike : (origin : Origin) (plan : List ℕ) (held : List ℕ → Option (List ℕ)) (bytes : List ℕ) (c r : Report) → let s = subject_by origin plan in IsDecided s held → IsReported s held (certified s Three bytes) c → IsReported s held (told_by origin plan bytes) r → IsTextFor c r

@@ -8,12 +8,13 @@ use Rattle.hw_cert_lines.specs.declared.line.Line.{Line}
 use Rattle.hw_cert_lines.specs.Lines.{last_table}
 use Rattle.hw_cert.specs.declared.version.Version.TheVariants.{Three}
 use Rattle.hw_cert.specs.Stream.{CertLines, cert_stream_to}
+use Rattle.hw_repair.specs.Wishes.{PlanParts}
 use Rattle.hw_report.specs.Reports.{Report, Naming, checked, picture, refused, too_long}
 use Rattle.hw_command.specs.Certificates.{cert_outcome_to, report_of}
 use Rattle.hw_command.specs.Keeping.{complete_lines}
 use Rattle.hw_command.specs.declared.outcome.CertOutcome.{CertOutcome}
 use Rattle.hw_command.specs.declared.outcome.CertOutcome.TheVariants.{Shows, Wrong, TooLong}
-use Rattle.hw_subject.specs.Meanings.{judged, repair_ships}
+use Rattle.hw_subject.specs.Meanings.{judged}
 use Rattle.hw_subject.specs.Subjects.{Subject, Topic, topic_subject}
 use Rattle.hw_subject.specs.Decided.{IsDecided, IsReported, ReportedBy, certified}
 use Rattle.hw_subject.specs.Shown.{Refused, Shown}
@@ -85,10 +86,10 @@ refusal_alike : (topic : Topic) (held : List ℕ → Option (List ℕ)) (r : Rep
 refusal_alike topic held (checked w bound ships names) h = absurd ((certless topic).silent held (checked w bound ships names) h refl)
 refusal_alike topic held r h = refl
 
-outcome_alike : (names : Naming) (bound ships : Option ℕ) (f : Problem) (bytes : List ℕ) (o : CertOutcome) → IsTableAs (report_of names bound ships o) (outcome_table names f bytes o)
-outcome_alike names bound ships f bytes (Shows w) = (shown_in f bytes, refl)
-outcome_alike names bound ships f bytes (Wrong number word hint) = refl
-outcome_alike names bound ships f bytes TooLong = refl
+outcome_alike : (names : Naming) (bound : Option ℕ) (plan : Option PlanParts) (f : Problem) (bytes : List ℕ) (o : CertOutcome) → IsTableAs (report_of names bound plan o) (outcome_table names f bytes o)
+outcome_alike names bound plan f bytes (Shows w) = (shown_in f bytes, refl)
+outcome_alike names bound plan f bytes (Wrong number word hint) = refl
+outcome_alike names bound plan f bytes TooLong = refl
 
 alike : (topic : Topic) (held : List ℕ → Option (List ℕ)) (bytes : List ℕ) (c r : Report) → let s = topic_subject topic in IsDecided s held → IsReported s held (certified s Three bytes) c → IsReported s held (tabled s bytes) r → IsTableAs c r
 alike topic held bytes c r d (inl a) (inl b) = subst (IsTableAs c) (d.one_refusal c r a b) (refusal_alike topic held c a)
@@ -98,7 +99,7 @@ alike topic held bytes c r d (inr a) (inr b) =
     let s = topic_subject topic in
     let v = a.value in
     let listed : cert_table (s.naming v) (judged s v) bytes ≡ r = ap (λ (v : s.Value). cert_table (s.naming v) (judged s v) bytes) (d.one_value v b.value a.reads b.reads) ∙ sym b.report in
-    subst (λ (x : Report). IsTableAs x r) (sym a.report) (subst (IsTableAs _) listed (outcome_alike (s.naming v) (cert_bound Three (judged s v) bytes) (repair_ships (s.problem v) (s.plan v)) (judged s v) bytes (cert_outcome_to Three (judged s v) bytes)))
+    subst (λ (x : Report). IsTableAs x r) (sym a.report) (subst (IsTableAs _) listed (outcome_alike (s.naming v) (cert_bound Three (judged s v) bytes) (s.plan v) (judged s v) bytes (cert_outcome_to Three (judged s v) bytes)))
 
 pub tables_as_verified_law : TablesAsVerified
 tables_as_verified_law topic cert held c r all told h g =

@@ -7,7 +7,6 @@ use Rattle.hw_repair.specs.Wishes.{PlanParts}
 use Rattle.hw_repair_text.specs.Texts.{repair_text}
 use Rattle.hw_report.specs.Reports.{Report, Naming, checked, whole_text}
 use Rattle.hw_command.specs.Carries.{Task}
-use Rattle.hw_subject.specs.Meanings.{repair_ships}
 use Rattle.hw_subject.specs.Subjects.{Subject}
 use Rattle.hw_subject.specs.CertTasks.{cert_task}
 use Rattle.hw_subject.specs.Checks.{Checks}
@@ -26,17 +25,17 @@ pub record Explained (s : Subject) (cert : List ℕ) (held : List ℕ → Option
   pub is_text : told ≡ repair_text (s.problem value) (s.naming value) plan table
 
 -- what is read of the inputs, each where it is told, and what a certificate without a timetable shows of it
-pub record ShowsNone (s : Subject) (cert : List ℕ) (held : List ℕ → Option (List ℕ)) (shows : Verdict) (bound ships : Option ℕ) (names : Naming) : Type 0 where
+pub record ShowsNone (s : Subject) (cert : List ℕ) (held : List ℕ → Option (List ℕ)) (shows : Verdict) (bound : Option ℕ) (plan : Option PlanParts) (names : Naming) : Type 0 where
   pub value : s.Value
   pub reads : s.Reads held value
   pub naming : names ≡ s.naming value
-  pub counted : ships ≡ repair_ships (s.problem value) (s.plan value)
+  pub planned : plan ≡ s.plan value
   pub shown : Shown s value Three (held cert) shows bound None
 
 -- what a report says of the inputs and of the certificate, each as far as it is told: what `verify` says of them, unless the certificate has a timetable, which is told against the plan
 abbrev pub ExplainsRepair : Subject → List ℕ → (List ℕ → Option (List ℕ)) → Report → Type 0
 ExplainsRepair s cert held (whole_text told) = Explained s cert held told
-ExplainsRepair s cert held (checked shows bound ships names) = ShowsNone s cert held shows bound ships names
+ExplainsRepair s cert held (checked shows bound plan names) = ShowsNone s cert held shows bound plan names
 ExplainsRepair s cert held r = Checks s Three cert held r
 
 abbrev pub ExplainSays : Subject → List ℕ → DeskState → Option Report → Type 0

@@ -13,7 +13,6 @@ use Rattle.hw_report.specs.Reports.{Report, Naming, checked, refused, too_long, 
 use Rattle.hw_command.specs.Certificates.{cert_outcome_to}
 use Rattle.hw_command.specs.declared.outcome.CertOutcome.{CertOutcome}
 use Rattle.hw_command.specs.declared.outcome.CertOutcome.TheVariants.{Shows, Wrong, TooLong}
-use Rattle.hw_subject.specs.Meanings.{repair_ships}
 use Rattle.hw_subject.specs.Reading.{naming_of, plan_in}
 use Rattle.hw_subject.specs.declared.subject.Given.{Given}
 use Rattle.hw_subject.specs.Texts.{cert_bound}
@@ -21,7 +20,7 @@ use Rattle.hw_subject.specs.Texts.{cert_bound}
 -- what a timetable makes of a plan, or what a certificate without one shows; where there is no plan, that as well
 abbrev pub told_report : Naming → Problem → Option PlanParts → Verdict → Option ℕ → Option (List ℕ) → Report
 told_report names f (Some plan) shows bound (Some table) = whole_text (repair_text f names plan table)
-told_report names f plan shows bound table = checked shows bound (repair_ships f plan) names
+told_report names f plan shows bound table = checked shows bound plan names
 
 -- the same of what was given
 abbrev pub given_report : Given → Verdict → Option ℕ → Option (List ℕ) → Report

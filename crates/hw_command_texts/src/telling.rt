@@ -8,7 +8,6 @@ ghost use Rattle.hw_report.specs.Printing.{AreNamesOf, CanPrint};
 ghost use Rattle.hw_report.specs.Reports.{checked, whole_text};
 ghost use Rattle.hw_report.specs.Seen.{report_seen};
 ghost use Rattle.hw_command.specs.Ends.{Ends};
-ghost use Rattle.hw_subject.specs.Meanings.{repair_ships};
 ghost use Rattle.hw_subject.specs.Reading.{naming_of, plan_in};
 ghost use Rattle.hw_repair_text.specs.Texts.{repair_text};
 ghost use Rattle.hw_command_texts.specs.Texts.{given_report};
@@ -47,13 +46,13 @@ pub(crate) fn tell<D: Desk>(
 
 /// The report of what a certificate shows, as by `verify repair`.
 fn shown<'a>(given: &'a Given, verdict: Verdict, bound: Option<u64>) -> Report<'a>
-    ensures value { report_seen result ≡ checked verdict bound (repair_ships given.now.flat (plan_in given.now.repair)) (naming_of given.now.named) }
+    ensures value { report_seen result ≡ checked verdict bound (plan_in given.now.repair) (naming_of given.now.named) }
     ensures printed { CanPrint (report_seen result) }
 {
     Report::Checked {
         verdict,
         bound,
-        ships: given.repaired_ships(),
+        plan: given.plan(),
         names: given.names(),
     }
 }
