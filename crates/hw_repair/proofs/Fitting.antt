@@ -22,10 +22,10 @@ use Rattle.hw_repair.specs.declared.plan.Judged.{Judged}
 use Rattle.hw_repair.specs.declared.plan.Judged.TheVariants.{WholeDay, FromNow}
 use Rattle.hw_repair.specs.declared.plan.Wish.{Wish}
 use Rattle.hw_repair.specs.declared.plan.Wish.TheVariants.{Kept, Fixed, Planned, New}
-use Rattle.hw_repair.specs.Wishes.{PlanParts, WishFits, TimeFits, AreOut, IsRepairable, PlanFits}
+use Rattle.hw_repair.specs.Wishes.{WishFits, TimeFits, AreOut, IsRepairable, PlanFits}
 use Rattle.hw_plan_texts.proofs.Reading.{bind_ok, formed_ok, slot_below}
 use Rattle.hw_plan_texts.specs.Reading.{MalformedLine, malformed_line, formed_line, formed_line_at}
-use Rattle.hw_repair.specs.Text.{kept_by, planned_by, kept_words, planned_words, wish_words, wish_form, lone_word, published_words, timed_words, timed_form, is_past, now_words, now_form, is_large, withdrawn_form, Opening, withdrawn_at, outs_at, timed_at, opening_by, opening_at, wish_form_by, is_past_by, tested_wish, wish_at, wishes_at}
+use Rattle.hw_repair.specs.Text.{kept_by, planned_by, kept_words, planned_words, wish_words, lone_word, published_words, timed_words, is_past, now_words, now_form, is_large, withdrawn_form, Opening, withdrawn_at, outs_at, timed_at, opening_by, opening_at, wish_form_by, is_past_by, tested_wish, wish_at, wishes_at}
 use Rattle.hw_repair.proofs.Outs.{outs_read}
 
 abbrev Parts : Type 0

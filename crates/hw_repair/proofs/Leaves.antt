@@ -59,7 +59,7 @@ pub rest_value_is : (now : ℕ) (o : Option Wish) (slot : ℕ) (v : Option ℕ) 
 rest_value_is now o slot v e le = rest_is now o slot v e ∙ ap (λ (b : Bool). cond b None v) (le-ltb slot now le)
 
 -- of one that is
-sailed_then : (b : Bool) → IsSome (cond b (Some 0) None) → b ≡ true
+sailed_then : (b : Bool) → IsSome {T = ℕ} (cond b (Some 0) None) → b ≡ true
 sailed_then true h = refl
 sailed_then false h = absurd cc
 

@@ -1,5 +1,5 @@
 -- Reading the lines of tugs that are out one after the other, as a loop does, and what they say.
-use Rattle.std.proofs.Common.{◌≡◌, ◌≢◌, ◌==◌, ℕ, ◌+◌, ◌-◌, ◌<◌, ◌≤◌, ◌^◌, Bool, true, false, cond, List, [], ◌∷◌, ◌++◌, length, Option, Some, None, Result, Ok, Err, refl, sym, ap, subst, ◌∙◌, append_assoc, lit<, arith}
+use Rattle.std.proofs.Common.{◌≡◌, ◌≢◌, ◌==◌, ℕ, ◌+◌, ◌-◌, ◌<◌, ◌≤◌, Bool, true, false, cond, List, [], ◌∷◌, ◌++◌, length, Option, Some, None, Ok, Err, refl, sym, ap, subst, ◌∙◌, append_assoc, lit<, arith}
 use Rattle.std.proofs.lemmas.Bool.{eq-eqb}
 use Rattle.std.proofs.lemmas.List.{append-nil, length_push}
 use Rattle.std.proofs.lemmas.Option.{same_Some}
@@ -8,8 +8,7 @@ use Rattle.hw_text.specs.Parts.{words_of, first_part}
 use Rattle.hw_text.proofs.Signs.{from_to_is}
 use Rattle.hw_text.proofs.Spelled.{is_spelled}
 use Rattle.hw_model.specs.declared.rule.Step.{Step}
-use Rattle.hw_plan_texts.specs.Reading.{MalformedLine, malformed_line}
-use Rattle.hw_repair.specs.declared.fault.PlanWord.{PlanWord}
+use Rattle.hw_plan_texts.specs.Reading.{malformed_line}
 use Rattle.hw_repair.specs.declared.fault.PlanWord.TheVariants as words
 use Rattle.hw_repair.specs.Wishes.{AreOut}
 use Rattle.hw_repair.specs.Text.{out_by, out_words, out_form, is_out_line, out_first, out_then, outs_at}

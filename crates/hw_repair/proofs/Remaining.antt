@@ -1,5 +1,5 @@
 -- What a plan leaves of a problem permits the timetables that meet the plan, and has their cargo and its limits.
-use Rattle.std.proofs.Common.{◌≡◌, inl, inr, ℕ, suc, ◌+◌, ◌-◌, ◌*◌, ◌<◌, ◌≤◌, max, min, pos, ◌-ℤ◌, Bool, cond, ◌&&◌, ◌||◌, nat_le, List, [], ◌∷◌, map, Option, Some, None, option_map, slice_get, sum_by, unwrap_or, IfSome, IsSome, IsTrue, All, length, get_or, refl, sym, ap, subst, ◌∙◌, arith}
+use Rattle.std.proofs.Common.{◌≡◌, inl, inr, ℕ, suc, ◌+◌, ◌-◌, ◌*◌, ◌<◌, ◌≤◌, max, min, pos, ◌-ℤ◌, Bool, true, false, cond, ◌&&◌, ◌||◌, nat_le, List, [], ◌∷◌, map, Option, Some, None, option_map, slice_get, sum_by, unwrap_or, IfSome, IsSome, IsTrue, All, length, get_or, refl, sym, ap, subst, ◌∙◌, arith}
 use Rattle.std.specs.Prelude.{◌↔◌, ◌≢◌}
 use Rattle.std.specs.List.{range_with_len}
 use Rattle.std.proofs.lemmas.Bool.{cases_lt, cases_Bool, cond_both, le-leb, leb-true, or_right, and_from}
@@ -82,7 +82,7 @@ enough f now out wishes table fleet later jobs fits sailed rest keeps slot lt =
     let parts = in_two_parts wishes table slot jobs sailed in
     elim (cases_lt slot now) [
       | inl before ↦
-          let none = rest_later f.ships wishes table slot jobs fits.each_job (λ ship in' gone. omega (arith, before, rest ship in' gone)) in
+          let none = rest_later f.ships wishes table slot jobs fits.each_job (λ ship within gone. let at = rest ship within gone in omega (arith, before, at)) in
           omega (arith, parts, none)
       | inr from ↦ let few = keeps slot from lt in omega (arith, parts, few)
     ]

@@ -24,19 +24,14 @@ use Rattle.hw_repair.specs.declared.plan.Judged.TheVariants.{WholeDay, FromNow}
 use Rattle.hw_repair.specs.declared.plan.Wish.{Wish}
 use Rattle.hw_repair.specs.AsOf.{problem_by, as_of, left_by}
 use Rattle.hw_repair.specs.Wishes.{PlanParts, Grants, IsRepairable, PlanFits, PermitsPlan, plan_cargo, moved, counted}
-use Rattle.hw_repair.specs.Repaired.{repaired_worth, repaired_value, value_by, repaired_by, repaired, own_cargo, own_moved, IsBestRepair}
+use Rattle.hw_repair.specs.Repaired.{repaired_worth, value_by, repaired_by, repaired, own_cargo, own_moved, IsBestRepair}
 use Rattle.hw_repair.specs.Laws.{GrantsEach, RepairedValue, RepairedFits, RepairedPermits, RepairedCargo, CarriesRepaired, RepairedMeets, BestRepair, NoneRepair}
-use Rattle.hw_repair.proofs.Values.{value_is, granted_value, value_there, there_value, value_repairable, repaired_small, repaired_last, none_else, row_value}
+use Rattle.hw_repair.proofs.Values.{value_left, granted_value, value_there, there_value, value_repairable, repaired_small, repaired_last, none_else}
 use Rattle.hw_repair.proofs.Carried.{few_moved, few_counted, Carries, carries}
 use Rattle.hw_repair.proofs.Leaves.{same_ships, last_in, granted_at}
 use Rattle.hw_repair.proofs.Remaining.{left_permits, left_cargo, fits_by, repairable_by}
 
 -- ---- values
-
-value_left : (judged : Judged) (f : Problem) (wishes : List Wish) (ship slot : ℕ) (wish : Wish) → length wishes ≡ f.ships → slice_get wishes ship ≡ Some wish → slot < f.slots
-    → value_at (repaired_by (problem_by judged f wishes) wishes) ship slot ≡ repaired_value f.ships wish slot (value_at (problem_by judged f wishes) ship slot)
-value_left (WholeDay withdrawn) f wishes ship slot wish same e lt = value_is (lessened withdrawn f) wishes ship slot wish same e lt
-value_left (FromNow now out) f wishes ship slot wish same e lt = value_is (as_of f now out wishes) wishes ship slot wish same e lt
 
 pub repaired_value : RepairedValue
 repaired_value f plan ship slot wish same e lt = value_left plan.judged f plan.wishes ship slot wish same e lt
@@ -74,11 +69,6 @@ pub repaired_fits : RepairedFits
 repaired_fits f plan flat writable fits = fits_left plan.judged f plan.wishes flat writable fits.each_value
 
 -- ---- as it is computed
-
-pub row_left : (f : Problem) (plan : PlanParts) (ship slot : ℕ) (d : Wish) (v : Option ℕ) (ships : ℕ) → length plan.wishes ≡ f.ships → ship < f.ships → ships ≡ f.ships → v ≡ value_at (left_by f plan) ship slot → repaired_value ships (get_or plan.wishes ship d) slot v ≡ value_by (left_by f plan) plan.wishes ship slot
-row_left f plan ship slot d v ships same lt s e =
-    let is : (left_by f plan).ships ≡ f.ships = same_ships plan.judged f plan.wishes in
-    row_value (left_by f plan) plan.wishes ship slot d v ships (same ∙ sym is) (omega (arith, lt, is)) (s ∙ sym is) e
 
 pub left_repairable : (f : Problem) (plan : PlanParts) (ship slot : ℕ) (v : Option ℕ) (ships : ℕ) → IsFlat f → PlanFits f plan → ships ≡ f.ships → v ≡ value_at (left_by f plan) ship slot → IsRepairable ships (unwrap_or v 0)
 left_repairable f plan ship slot v ships flat fits s e =

@@ -4,12 +4,17 @@ use Rattle.std.proofs.lemmas.Bool.{eqb-true, eq-eqb, leb-true, le-leb}
 use Rattle.std.proofs.lemmas.Option.{get_or_from_slice_get, slice_get-get_or}
 use Rattle.std.proofs.lemmas.List.Elements.{All-get_or}
 use Rattle.hw_lemmas.proofs.Lists.{get_within}
+use Rattle.hw_plan_texts.specs.Fleets.{lessened}
 use Rattle.hw_plan_texts.proofs.Grids.{grid_value}
 use Rattle.hw_model.specs.Problem.{Problem, value_at}
+use Rattle.hw_repair.specs.declared.plan.Judged.{Judged}
+use Rattle.hw_repair.specs.declared.plan.Judged.TheVariants.{WholeDay, FromNow}
 use Rattle.hw_repair.specs.declared.plan.Wish.{Wish}
 use Rattle.hw_repair.specs.declared.plan.Wish.TheVariants.{Kept, Fixed, Planned, New}
-use Rattle.hw_repair.specs.Wishes.{Grants, grants, IsRepairable}
+use Rattle.hw_repair.specs.AsOf.{as_of, left_by, problem_by}
+use Rattle.hw_repair.specs.Wishes.{PlanParts, Grants, grants, IsRepairable}
 use Rattle.hw_repair.specs.Repaired.{repaired_worth, repaired_value, value_by, repaired_by}
+use Rattle.hw_repair.proofs.Leaves.{same_ships}
 
 pub grants_of : (wish : Wish) (slot : ℕ) → grants wish slot ≡ true → Grants wish slot
 grants_of (Kept kept) slot e = eqb-true slot kept e
@@ -31,6 +36,11 @@ value_is g wishes ship slot wish same e lt =
     let in' : ship < g.ships = omega (arith, get_within wishes ship wish e, same) in
     grid_value (repaired_by g wishes) (value_by g wishes) ship slot refl in' lt
     ∙ ap (option_and_then (λ w. repaired_value g.ships w slot (value_at g ship slot))) e
+
+pub value_left : (judged : Judged) (f : Problem) (wishes : List Wish) (ship slot : ℕ) (wish : Wish) → length wishes ≡ f.ships → slice_get wishes ship ≡ Some wish → slot < f.slots
+    → value_at (repaired_by (problem_by judged f wishes) wishes) ship slot ≡ repaired_value f.ships wish slot (value_at (problem_by judged f wishes) ship slot)
+value_left (WholeDay withdrawn) f wishes ship slot wish same e lt = value_is (lessened withdrawn f) wishes ship slot wish same e lt
+value_left (FromNow now out) f wishes ship slot wish same e lt = value_is (as_of f now out wishes) wishes ship slot wish same e lt
 
 -- what a granted slot carries
 pub granted_value : (g : Problem) (wishes : List Wish) (ship slot : ℕ) (wish : Wish) → length wishes ≡ g.ships → slice_get wishes ship ≡ Some wish → slot < g.slots → Grants wish slot
@@ -106,3 +116,9 @@ row_value g wishes ship slot d v ships same lt s e =
     ap (λ n. repaired_value n (get_or wishes ship d) slot v) s
     ∙ (ap (λ o. repaired_value g.ships (get_or wishes ship d) slot o) e
     ∙ sym (ap (option_and_then (λ w. repaired_value g.ships w slot (value_at g ship slot))) there))
+
+-- by what a plan leaves
+pub row_left : (f : Problem) (plan : PlanParts) (ship slot : ℕ) (d : Wish) (v : Option ℕ) (ships : ℕ) → length plan.wishes ≡ f.ships → ship < f.ships → ships ≡ f.ships → v ≡ value_at (left_by f plan) ship slot → repaired_value ships (get_or plan.wishes ship d) slot v ≡ value_by (left_by f plan) plan.wishes ship slot
+row_left f plan ship slot d v ships same lt s e =
+    let is : (left_by f plan).ships ≡ f.ships = same_ships plan.judged f plan.wishes in
+    row_value (left_by f plan) plan.wishes ship slot d v ships (same ∙ sym is) (omega (arith, lt, is)) (s ∙ sym is) e

@@ -1,6 +1,5 @@
 -- A plan that is written reads as itself.
 use Rattle.std.proofs.Common.{◌≡◌, ◌≢◌, ◌==◌, ℕ, zero, suc, ◌+◌, ◌-◌, ◌*◌, ◌<◌, ◌≤◌, ◌^◌, cond, nat_lt, Bool, true, false, List, [], ◌∷◌, ◌++◌, map, Some, Ok, All, length, codes, decimal, unwrap_or, refl, sym, ap, ◌∙◌, append_assoc, lit<, arith}
-use Rattle.std.specs.Prelude.{⊤}
 use Rattle.std.proofs.lemmas.Bool.{and_from, le-ltb, ne_eqb}
 use Rattle.std.proofs.lemmas.List.Elements.{All-head, All-tail}
 use Rattle.std.proofs.lemmas.List.Folds.{list_all-append}

@@ -1,5 +1,5 @@
 -- The problem as it is by a plan: with fewer tugs, or as of now.
-use Rattle.std.specs.Prelude.{ℕ, ◌-◌, ◌==◌, Bool, ◌&&◌, not, nat_lt, max, min, pos, if◌then◌else◌, List, [], ◌∷◌, map, filter, sum_by, Option, Some, None, slice_get}
+use Rattle.std.specs.Prelude.{ℕ, ◌-◌, ◌==◌, ◌&&◌, not, nat_lt, max, min, pos, if◌then◌else◌, List, [], ◌∷◌, map, filter, sum_by, Option, Some, None, slice_get}
 use Rattle.std.specs.List.{range_with_len}
 use Rattle.hw_plan_texts.specs.Fleets.{lessened}
 use Rattle.hw_plan_texts.specs.Grids.{grid_of_values}

@@ -1,5 +1,5 @@
 -- The laws of a plan's repair.
-use Rattle.std.specs.Prelude.{◌≡◌, ◌↔◌, ◌⊎◌, ℕ, ◌+◌, ◌-◌, ◌*◌, ◌<◌, ◌≤◌, List, [], length, All, true, false, Some, Ok, IfSome, IsSome, IsTrue, slice_get, slice_index, map, ⊤}
+use Rattle.std.specs.Prelude.{◌≡◌, ◌↔◌, ◌⊎◌, ℕ, ◌+◌, ◌-◌, ◌*◌, ◌<◌, ◌≤◌, List, [], length, All, true, Some, Ok, IfSome, IsSome, IsTrue, slice_get, slice_index, map, ⊤}
 use Rattle.std.specs.List.{list_all}
 use Rattle.hw_model.specs.declared.limits.TheConstants.{MOST_PLAIN_FLEET}
 use Rattle.hw_model.specs.declared.rule.Step.{Step}
@@ -11,9 +11,9 @@ use Rattle.hw_flat.specs.TextWritten.{IsWritable}
 use Rattle.hw_repair.specs.declared.plan.Judged.{Judged}
 use Rattle.hw_repair.specs.declared.plan.Judged.TheVariants.{WholeDay, FromNow}
 use Rattle.hw_repair.specs.declared.plan.Wish.{Wish}
-use Rattle.hw_repair.specs.declared.plan.Wish.TheVariants.{Kept, Fixed, Planned, New}
-use Rattle.hw_repair.specs.AsOf.{as_of, left_by}
-use Rattle.hw_repair.specs.Wishes.{PlanParts, PlanFits, Grants, KeepsRest, PermitsPlan, plan_cargo, rest_cargo_from, moved, counted, is_gone}
+use Rattle.hw_repair.specs.declared.plan.Wish.TheVariants.{Kept, Fixed, Planned}
+use Rattle.hw_repair.specs.AsOf.{left_by}
+use Rattle.hw_repair.specs.Wishes.{PlanParts, PlanFits, Grants, KeepsRest, PermitsPlan, plan_cargo, moved, counted}
 use Rattle.hw_repair.specs.Text.{rule_has_tugs, plan_text}
 use Rattle.hw_repair.specs.Written.{written_plan}
 use Rattle.hw_repair.specs.Repaired.{repaired_value, repaired, own_cargo, own_moved, MeetsPlanWith, IsBestRepair, NoRepair}

@@ -5,8 +5,8 @@ use Rattle.hw_model.specs.declared.rule.Rule.TheVariants.{Tugs}
 use Rattle.hw_model.specs.Problem.{Problem}
 use Rattle.hw_repair.specs.declared.fault.PlanWord.TheVariants as words
 use Rattle.hw_repair.specs.declared.plan.Wish.{Wish}
-use Rattle.hw_repair.specs.declared.plan.Wish.TheVariants.{Kept, Fixed, Planned, New}
-use Rattle.hw_repair.specs.declared.plan.Judged.TheVariants.{WholeDay, FromNow}
+use Rattle.hw_repair.specs.declared.plan.Wish.TheVariants.{Kept, Planned}
+use Rattle.hw_repair.specs.declared.plan.Judged.TheVariants.{WholeDay}
 use Rattle.hw_repair.specs.Wishes.{PlanParts, moved}
 use Rattle.hw_repair.specs.Repaired.{repaired}
 use Rattle.hw_repair.specs.Text.{plan_text}

@@ -1,5 +1,5 @@
 -- A small yard's problem with plans that know the time, and what was worked out for them by hand.
-use Rattle.std.specs.Prelude.{◌≡◌, [], ◌∷◌, Some, None, Ok, Err, codes, ℕ, pos, true, List, Option}
+use Rattle.std.specs.Prelude.{◌≡◌, [], ◌∷◌, Some, None, Ok, Err, codes, ℕ, pos, true, List}
 use Rattle.hw_model.specs.declared.rule.Job.{Job}
 use Rattle.hw_model.specs.declared.rule.Rule.{Rule}
 use Rattle.hw_model.specs.declared.rule.Rule.TheVariants.{Pair, After, Tugs}
@@ -28,8 +28,8 @@ yard = record {
   slots = 7;
   stay = true;
   values = Some 10_000 ∷ Some 15_500 ∷ Some 16_000 ∷ Some 12_500 ∷ None ∷ None ∷ Some 0
-    ∷ Some 9_000 ∷ Some 9_000 ∷ Some 9_000 ∷ Some 9_000 ∷ Some 8_400 ∷ None ∷ None
-    ∷ Some 900 ∷ Some 800 ∷ Some 700 ∷ Some 600 ∷ Some 500 ∷ Some 400 ∷ Some 0 ∷ [];
+      ∷ Some 9_000 ∷ Some 9_000 ∷ Some 9_000 ∷ Some 9_000 ∷ Some 8_400 ∷ None ∷ None
+      ∷ Some 900 ∷ Some 800 ∷ Some 700 ∷ Some 600 ∷ Some 500 ∷ Some 400 ∷ Some 0 ∷ [];
   rules = apart_unless 0 1 0 1 ∷ apart_unless 0 1 0 3 ∷ apart_unless 0 2 0 2 ∷ After 0 2 1 ∷ Tugs 3 (record { from = 4; fleet = 2 } ∷ []) yard_jobs ∷ [];
 }
 
@@ -39,23 +39,23 @@ at_two wishes = record { judged = FromNow 2 []; wishes = wishes }
 -- what plans leave of the yard
 pub record LeftRows : Type 0 where
   pub one_gone : (left_by yard (at_two (Planned 2 0 ∷ Kept 1 ∷ Planned 5 0 ∷ []))).values ≡ None ∷ None ∷ Some 16_000 ∷ Some 12_500 ∷ None ∷ None ∷ Some 0
-    ∷ None ∷ Some 0 ∷ None ∷ None ∷ None ∷ None ∷ None
-    ∷ None ∷ None ∷ Some 700 ∷ Some 600 ∷ Some 500 ∷ Some 400 ∷ Some 0 ∷ []
+      ∷ None ∷ Some 0 ∷ None ∷ None ∷ None ∷ None ∷ None
+      ∷ None ∷ None ∷ Some 700 ∷ Some 600 ∷ Some 500 ∷ Some 400 ∷ Some 0 ∷ []
   pub rules_stand : (left_by yard (at_two (Planned 2 0 ∷ Kept 1 ∷ Planned 5 0 ∷ []))).rules ≡ yard.rules
   -- the third ship came in before the first one has left
   pub after_is_over : (left_by yard (at_two (Planned 2 0 ∷ Kept 1 ∷ Kept 1 ∷ []))).rules
-    ≡ apart_unless 0 1 0 1 ∷ apart_unless 0 1 0 3 ∷ apart_unless 0 2 0 2 ∷ apart_unless 0 2 1_023 1_023 ∷ Tugs 3 (record { from = 4; fleet = 2 } ∷ []) yard_jobs ∷ []
+      ≡ apart_unless 0 1 0 1 ∷ apart_unless 0 1 0 3 ∷ apart_unless 0 2 0 2 ∷ apart_unless 0 2 1_023 1_023 ∷ Tugs 3 (record { from = 4; fleet = 2 } ∷ []) yard_jobs ∷ []
   -- three tugs are out from slot 2 on; one of a ship that is gone is still held there
   pub tugs_out : (left_by yard (record { judged = FromNow 2 (record { from = 2; fleet = 3 } ∷ []); wishes = Planned 2 0 ∷ Kept 1 ∷ Planned 5 0 ∷ [] })).rules
-    ≡ apart_unless 0 1 0 1 ∷ apart_unless 0 1 0 3 ∷ apart_unless 0 2 0 2 ∷ After 0 2 1 ∷ Tugs 3 (record { from = 2; fleet = 1 } ∷ record { from = 3; fleet = 0 } ∷ []) yard_jobs ∷ []
+      ≡ apart_unless 0 1 0 1 ∷ apart_unless 0 1 0 3 ∷ apart_unless 0 2 0 2 ∷ After 0 2 1 ∷ Tugs 3 (record { from = 2; fleet = 1 } ∷ record { from = 3; fleet = 0 } ∷ []) yard_jobs ∷ []
 
 -- what is carried and moved by plans that know the time
 pub record TimedRows : Type 0 where
   pub one_gone : plan_cargo yard (at_two (Planned 2 0 ∷ Kept 1 ∷ Planned 5 0 ∷ [])) (2 ∷ 1 ∷ 5 ∷ []) ≡ Some 16_400
   pub none_moved : moved (at_two (Planned 2 0 ∷ Kept 1 ∷ Planned 5 0 ∷ [])) (2 ∷ 1 ∷ 5 ∷ []) ≡ 0
   pub never_published : (repaired yard (at_two (New 3 ∷ Kept 1 ∷ Planned 5 0 ∷ []))).values ≡ None ∷ None ∷ None ∷ Some 50_000 ∷ None ∷ None ∷ Some 0
-    ∷ None ∷ Some 1 ∷ None ∷ None ∷ None ∷ None ∷ None
-    ∷ None ∷ None ∷ Some 2_800 ∷ Some 2_400 ∷ Some 2_000 ∷ Some 1_601 ∷ Some 0 ∷ []
+      ∷ None ∷ Some 1 ∷ None ∷ None ∷ None ∷ None ∷ None
+      ∷ None ∷ None ∷ Some 2_800 ∷ Some 2_400 ∷ Some 2_000 ∷ Some 1_601 ∷ Some 0 ∷ []
   pub never_moved : moved (at_two (New 0 ∷ Kept 1 ∷ Planned 5 0 ∷ [])) (2 ∷ 1 ∷ 5 ∷ []) ≡ 0
 
 -- what texts of the third version say

@@ -26,7 +26,7 @@ loop-line-preserved c =
       few = omega (arith, size, c.loop-line.invariant.few, c.in-Some-out_of.ensures.low);
       low = omega (arith, c.in-Some-out_of.ensures.high);
       told = outs_go_on c.loop-line.steps.items c.push.new.self.items step 3 c.loop-line.least c.loop-line.before c.args.sailing (parts_of 10 c.loop-line.rest.now) (parts_of 10 c.in-Some.after.now) c.in-Some.line.now (outs_at 3 c.args.now 0 c.args.sailing (parts_of 10 c.args.bytes.now))
-      c.in-Some.ensures.line (sym c.if-not-is_out_line.ensures) (sym c.in-Some-out_of.ensures.form) grown c.loop-line.invariant.told;
+          c.in-Some.ensures.line (sym c.if-not-is_out_line.ensures) (sym c.in-Some-out_of.ensures.form) grown c.loop-line.invariant.told;
     }
 
 pub returns-clause-reads : goal.returns-clause-reads
