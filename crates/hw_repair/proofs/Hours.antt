@@ -1,9 +1,9 @@
 -- A fleet that is told slot by slot, by steps where it changes.
-use Rattle.std.proofs.Common.{◌≡◌, ◌==◌, inl, inr, ℕ, zero, suc, ◌+◌, ◌-◌, ◌<◌, ◌≤◌, Bool, true, false, not, cond, List, [], ◌∷◌, map, filter, length, get_or, All, AllPairs, refl, sym, ap, subst, ◌∙◌, arith}
-use Rattle.std.proofs.lemmas.Bool.{cases_lt, lt-leb, le-leb, eqb-true, not-false}
-use Rattle.std.proofs.lemmas.List.{length-map, get_or-map}
+use Rattle.std.proofs.Common.{◌≡◌, ◌==◌, inl, inr, ℕ, zero, suc, ◌+◌, ◌-◌, ◌<◌, ◌≤◌, Bool, true, false, not, cond, List, [], ◌∷◌, ◌++◌, map, filter, length, get_or, All, AllPairs, refl, sym, ap, subst, ◌∙◌, arith}
+use Rattle.std.proofs.lemmas.Bool.{cases_lt, lt-leb, le-leb, eqb-true, eq-eqb, ne_eqb, not-false, not_from_true, not_from_false}
+use Rattle.std.proofs.lemmas.List.{append-nil, length-map, get_or-map, map-append, map-id}
 use Rattle.std.proofs.lemmas.List.Elements.{All-map, All-filter, All-weaker, All-from_get_or, All-get_or}
-use Rattle.std.proofs.lemmas.List.FromFn.{length-range_with_len, get_or-range_with_len}
+use Rattle.std.proofs.lemmas.List.FromFn.{length-range_with_len, get_or-range_with_len, filter_of_map_range_with_len_more}
 use Rattle.std.proofs.lemmas.List.Kept.{AllPairs-filter, AllPairs-from_increasing}
 use Rattle.std.specs.List.{range_with_len}
 use Rattle.hw_lemmas.proofs.Lists.{range_ascends}
@@ -64,6 +64,39 @@ told_from fleet (suc many) before slot low high =
 -- in each sailing slot the steps tell the fleet
 pub fleet_told : (fleet : ℕ → ℕ) (sailing slot : ℕ) → slot < sailing → fleet_in (fleet 0) (steps_of fleet sailing) slot ≡ fleet slot
 fleet_told fleet sailing slot lt = told_from fleet (sailing - 1) 0 slot (omega arith) (omega (arith, lt))
+
+-- ---- one slot more
+
+steps_more : (fleet : ℕ → ℕ) (slot : ℕ) → 1 ≤ slot → steps_of fleet (slot + 1) ≡ steps_of fleet slot ++ cond (changes fleet slot) (step_at fleet slot ∷ []) []
+steps_more fleet slot some =
+    let size : slot + 1 - 1 ≡ (slot - 1) + 1 = omega (arith, some) in
+    ap (λ (n : ℕ). map (step_at fleet) (filter (changes fleet) (range_with_len 1 n))) size
+    ∙ (ap (map (step_at fleet)) (slots_more (slot - 1) slot (omega (arith, some)))
+    ∙ (map-append (step_at fleet) (filter (changes fleet) (range_with_len 1 (slot - 1))) (cond (changes fleet slot) (slot ∷ []) [])
+    ∙ ap (λ (steps : List Step). steps_of fleet slot ++ steps) (by_test (changes fleet slot))))
+  where
+    slots_more : (n j : ℕ) → 1 + n ≡ j → filter (changes fleet) (range_with_len 1 (n + 1)) ≡ filter (changes fleet) (range_with_len 1 n) ++ cond (changes fleet j) (j ∷ []) []
+    slots_more n j at =
+        ap (filter (changes fleet)) (sym (map-id (range_with_len 1 (n + 1))))
+        ∙ (filter_of_map_range_with_len_more (changes fleet) (λ (x : ℕ). x) 1 n j at
+        ∙ ap (λ (xs : List ℕ). filter (changes fleet) xs ++ cond (changes fleet j) (j ∷ []) []) (map-id (range_with_len 1 n)))
+    by_test : (b : Bool) → map (step_at fleet) (cond b (slot ∷ []) []) ≡ cond b (step_at fleet slot ∷ []) []
+    by_test true = refl
+    by_test false = refl
+
+-- a slot with another fleet than before is a step
+pub told_changed : (fleet : ℕ → ℕ) (slot tugs before : ℕ) (steps : List Step) → 1 ≤ slot → tugs ≡ fleet slot → before ≡ fleet (slot - 1) → (tugs ≡ before → ⊥) → steps ≡ steps_of fleet slot → steps ++ record { from = slot; fleet = tugs } ∷ [] ≡ steps_of fleet (slot + 1)
+told_changed fleet slot tugs before steps some is last differs told =
+    let step : ℕ → Step = λ n. record { from = slot; fleet = n } in
+    let change : changes fleet slot ≡ true = not_from_false (fleet slot == fleet (slot - 1)) (ne_eqb (fleet slot) (fleet (slot - 1)) (λ e. differs (is ∙ e ∙ sym last))) in
+    ap (λ (xs : List Step). xs ++ step tugs ∷ []) told
+    ∙ (ap (λ (n : ℕ). steps_of fleet slot ++ step n ∷ []) is
+    ∙ sym (steps_more fleet slot some ∙ ap (λ (b : Bool). steps_of fleet slot ++ cond b (step_at fleet slot ∷ []) []) change))
+
+pub told_same : (fleet : ℕ → ℕ) (slot tugs before : ℕ) (steps : List Step) → 1 ≤ slot → tugs ≡ fleet slot → before ≡ fleet (slot - 1) → tugs ≡ before → steps ≡ steps_of fleet slot → steps ≡ steps_of fleet (slot + 1)
+told_same fleet slot tugs before steps some is last same told =
+    let none : changes fleet slot ≡ false = not_from_true (fleet slot == fleet (slot - 1)) (eq-eqb (fleet slot) (fleet (slot - 1)) (sym is ∙ same ∙ last)) in
+    told ∙ sym (steps_more fleet slot some ∙ (ap (λ (b : Bool). steps_of fleet slot ++ cond b (step_at fleet slot ∷ []) []) none ∙ append-nil (steps_of fleet slot)))
 
 -- ---- limits
 

@@ -1,7 +1,8 @@
 -- What a plan leaves of a problem: its sizes and its values, and which slots it grants.
 use Rattle.std.proofs.Common.{◌≡◌, ◌==◌, ℕ, ◌+◌, ◌-◌, ◌*◌, ◌<◌, ◌≤◌, Bool, true, false, cond, nat_lt, List, Option, Some, None, slice_get, unwrap_or, IfSome, IsSome, IsTrue, All, length, get_or, refl, sym, ap, subst, ◌∙◌, arith}
 use Rattle.std.proofs.lemmas.Bool.{ltb-false, le-ltb, eqb-true, eq-eqb}
-use Rattle.hw_lemmas.proofs.Truths.{if_some, if_some_from}
+use Rattle.std.proofs.lemmas.Option.{slice_get-get_or}
+use Rattle.hw_lemmas.proofs.Truths.{if_some}
 use Rattle.hw_plan_texts.proofs.Grids.{grid_value}
 use Rattle.hw_model.specs.Limits.{IsFlat}
 use Rattle.hw_model.specs.Problem.{Problem, horizon, value_at}
@@ -10,9 +11,9 @@ use Rattle.hw_repair.specs.declared.plan.Judged.{Judged}
 use Rattle.hw_repair.specs.declared.plan.Judged.TheVariants.{WholeDay, FromNow}
 use Rattle.hw_repair.specs.declared.plan.Wish.{Wish}
 use Rattle.hw_repair.specs.declared.plan.Wish.TheVariants.{Kept, Fixed, Planned, New}
-use Rattle.hw_repair.specs.AsOf.{value_as_of, as_of, problem_by}
+use Rattle.hw_repair.specs.AsOf.{value_as_of, as_of, left_by, problem_by}
 use Rattle.hw_repair.specs.Laws.{GrantsEach}
-use Rattle.hw_repair.specs.Wishes.{Grants, GrantsNow, is_kept}
+use Rattle.hw_repair.specs.Wishes.{PlanParts, Grants, GrantsNow, is_kept}
 
 -- ---- sizes
 
@@ -37,6 +38,16 @@ last_in f flat stay =
 
 pub as_of_value : (f : Problem) (now : ℕ) (out : List Step) (wishes : List Wish) (ship slot : ℕ) → ship < f.ships → slot < f.slots → value_at (as_of f now out wishes) ship slot ≡ value_as_of now (slice_get wishes ship) slot (value_at f ship slot)
 as_of_value f now out wishes ship slot lt in' = grid_value (as_of f now out wishes) (λ ship slot. value_as_of now (slice_get wishes ship) slot (value_at f ship slot)) ship slot refl lt in'
+
+-- as it is computed
+pub left_value : (f : Problem) (plan : PlanParts) (now : ℕ) (out : List Step) (ship slot : ℕ) (d : Wish) (v r : Option ℕ) → plan.judged ≡ FromNow now out → length plan.wishes ≡ f.ships → ship < f.ships → slot < f.slots → v ≡ value_at f ship slot → r ≡ value_as_of now (Some (get_or plan.wishes ship d)) slot v → r ≡ value_at (left_by f plan) ship slot
+left_value f plan now out ship slot d v r is same lt in' value told =
+    let wish : slice_get plan.wishes ship ≡ Some (get_or plan.wishes ship d) = slice_get-get_or plan.wishes ship d (omega (arith, lt, same)) in
+    told
+    ∙ (ap (value_as_of now (Some (get_or plan.wishes ship d)) slot) value
+    ∙ (ap (λ (o : Option Wish). value_as_of now o slot (value_at f ship slot)) (sym wish)
+    ∙ (sym (as_of_value f now out plan.wishes ship slot lt in')
+    ∙ ap (λ (judged : Judged). value_at (problem_by judged f plan.wishes) ship slot) (sym is))))
 
 -- of a ship that isn't gone
 rest_is : (now : ℕ) (o : Option Wish) (slot : ℕ) (v : Option ℕ) → is_kept o ≡ false → value_as_of now o slot v ≡ cond (nat_lt slot now) None v

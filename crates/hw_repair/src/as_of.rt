@@ -100,6 +100,7 @@ fn tugs_as_of(
     out: &[Step],
     wishes: &[Wish],
 ) -> Result<Rule, NoMemory>
+    requires some_slot { 1 ≤ sailing }
     requires few { length jobs.now ≤ MOST_SHIPS }
     requires fit { All (JobFits (length wishes.now)) jobs.now }
     ensures { IfOk result (λ rule. rule ≡ tugs_by (fleet_as_of out.now wishes.now fleet.entry.tugs fleet.entry.later jobs.now) sailing jobs.now) }
@@ -134,6 +135,7 @@ fn rule_as_of(
     out: &[Step],
     wishes: &[Wish],
 ) -> Result<Rule, NoMemory>
+    requires some_slot { 1 ≤ sailing }
     requires rule_fits { RuleFits (length wishes.now) rule.now }
     ensures { IfOk result (λ made. made ≡ rule_as_of sailing out.now wishes.now rule.now) }
 {
