@@ -1,6 +1,5 @@
 -- Plans through the day: in the morning, where all that can stay does, and after it went as planned.
-use Rattle.std.proofs.Common.{◌≡◌, inl, inr, ℕ, ◌+◌, ◌-◌, ◌<◌, ◌≤◌, Bool, true, false, cond, ◌&&◌, ◌||◌, nat_le, List, [], ◌∷◌, map, Option, Some, None, option_map, slice_get, sum_by, IfSome, IsSome, IsTrue, All, length, get_or, refl, sym, ap, subst, ◌∙◌, arith}
-use Rattle.std.specs.List.{list_all, range_with_len}
+use Rattle.std.proofs.Common.{◌≡◌, inl, inr, ℕ, ◌-◌, ◌<◌, ◌≤◌, Bool, true, false, cond, ◌||◌, nat_le, List, [], map, Option, Some, None, option_map, slice_get, sum_by, IfSome, IsSome, IsTrue, length, get_or, refl, sym, ap, subst, ◌∙◌, arith}
 use Rattle.std.proofs.lemmas.Bool.{cases_lt, le-leb, leb-true, and_left, and_right, and_cases, or_left, or_right}
 use Rattle.std.proofs.lemmas.Option.{slice_get-map, get_or_from_slice_get, slice_get_past}
 use Rattle.std.proofs.lemmas.List.{length-map}
@@ -10,19 +9,18 @@ use Rattle.hw_lemmas.proofs.Lists.{get_within, has_get}
 use Rattle.hw_lemmas.proofs.Truths.{if_some, if_some_from, clash}
 use Rattle.hw_plan_texts.proofs.Fleets.{same_problem}
 use Rattle.hw_model_laws.proofs.Counting.{all_of_range, range_all, at_place}
-use Rattle.hw_model.specs.declared.rule.Job.{Job}
 use Rattle.hw_model.specs.declared.rule.Rule.{Rule}
 use Rattle.hw_model.specs.declared.rule.Rule.TheVariants.{Pair, After, Tugs}
 use Rattle.hw_model.specs.declared.rule.Step.{Step}
-use Rattle.hw_model.specs.Limits.{IsFlat, RuleFits}
-use Rattle.hw_model.specs.Problem.{Problem, IsTimetable, horizon, value_at, stays}
+use Rattle.hw_model.specs.Limits.{RuleFits}
+use Rattle.hw_model.specs.Problem.{Problem, horizon, value_at, stays}
 use Rattle.hw_model.specs.Rules.{fleet_in, held_by, rule_holds}
 use Rattle.hw_model.specs.Timetables.{Permits}
 use Rattle.hw_repair.specs.declared.plan.Judged.TheVariants.{FromNow}
 use Rattle.hw_repair.specs.declared.plan.Wish.{Wish}
 use Rattle.hw_repair.specs.declared.plan.Wish.TheVariants.{Kept, Fixed, Planned, New}
 use Rattle.hw_repair.specs.Laws.{is_planned, Morning, slot_or_stay, MayStay, RestIsOpen, WishGoesOn, GoesOn, StaysMet}
-use Rattle.hw_repair.specs.Wishes.{WishFits, GrantsNow, RestKeeps, KeepsRest, KeepsWhole, is_kept, is_gone, held_from, held_by_gone, held_by_rest}
+use Rattle.hw_repair.specs.Wishes.{WishFits, GrantsNow, RestKeeps, KeepsRest, KeepsWhole, is_kept, is_gone, held_by_rest}
 use Rattle.hw_repair.proofs.GoneTugs.{SailedIn, in_two_parts, nobody_gone, rest_later}
 use Rattle.hw_repair.proofs.Leaves.{last_in, grants_at_all, grants_now}
 
@@ -127,11 +125,11 @@ rest_is_open f now out wishes flat stay fits may =
     let lt : now < horizon f = fits.time.0 in
     let table : List ℕ = map (slot_or_stay (horizon f)) wishes in
     let at : (ship : ℕ) (wish : Wish) → slice_get wishes ship ≡ Some wish → get_or (map (slot_or_stay (horizon f)) wishes) ship 0 ≡ slot_or_stay (horizon f) wish = λ ship wish e.
-        get_or_from_slice_get (map (slot_or_stay (horizon f)) wishes) ship (slot_or_stay (horizon f) wish) 0 (slice_get-map (slot_or_stay (horizon f)) wishes ship ∙ ap (option_map (slot_or_stay (horizon f))) e) in
+    get_or_from_slice_get (map (slot_or_stay (horizon f)) wishes) ship (slot_or_stay (horizon f) wish) 0 (slice_get-map (slot_or_stay (horizon f)) wishes ship ∙ ap (option_map (slot_or_stay (horizon f))) e) in
     let stay_at : (ship : ℕ) → ship < f.ships → is_gone wishes ship ≡ false → (get_or (map (slot_or_stay (horizon f)) wishes) ship 0 ≡ horizon f) × IsSome (value_at f ship (horizon f)) = λ ship in' gone.
-        let w = has_get wishes ship (omega (arith, in', fits.each_ship)) in
-        let both = may_sail f ship w.0 (subst (λ o. is_kept o ≡ false) w.1 gone) (if_some (MayStay f ship) (slice_get wishes ship) w.0 w.1 (may ship)) in
-        (at ship w.0 w.1 ∙ both.0, both.1) in
+    let w = has_get wishes ship (omega (arith, in', fits.each_ship)) in
+    let both = may_sail f ship w.0 (subst (λ o. is_kept o ≡ false) w.1 gone) (if_some (MayStay f ship) (slice_get wishes ship) w.0 w.1 (may ship)) in
+    (at ship w.0 w.1 ∙ both.0, both.1) in
     record {
       listed = record {
         each_ship = length-map wishes (slot_or_stay (horizon f)) ∙ fits.each_ship;

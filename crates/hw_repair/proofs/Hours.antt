@@ -1,8 +1,8 @@
 -- A fleet that is told slot by slot, by steps where it changes.
-use Rattle.std.proofs.Common.{◌≡◌, ◌==◌, inl, inr, ℕ, zero, suc, ◌+◌, ◌-◌, ◌<◌, ◌≤◌, Bool, true, false, not, cond, List, [], ◌∷◌, ◌++◌, map, filter, length, get_or, All, AllPairs, refl, sym, ap, subst, ◌∙◌, arith}
+use Rattle.std.proofs.Common.{◌≡◌, ◌==◌, inl, inr, ℕ, zero, suc, ◌+◌, ◌-◌, ◌<◌, ◌≤◌, Bool, true, false, not, cond, List, [], ◌∷◌, ◌++◌, map, filter, length, get_or, All, AllPairs, refl, sym, ap, ◌∙◌, arith}
 use Rattle.std.proofs.lemmas.Bool.{cases_lt, lt-leb, le-leb, eqb-true, eq-eqb, ne_eqb, not-false, not_from_true, not_from_false}
 use Rattle.std.proofs.lemmas.List.{append-nil, length-map, get_or-map, map-append, map-id}
-use Rattle.std.proofs.lemmas.List.Elements.{All-map, All-filter, All-weaker, All-from_get_or, All-get_or}
+use Rattle.std.proofs.lemmas.List.Elements.{All-map, All-filter, All-weaker, All-from_get_or}
 use Rattle.std.proofs.lemmas.List.FromFn.{length-range_with_len, get_or-range_with_len, filter_of_map_range_with_len_more}
 use Rattle.std.proofs.lemmas.List.Kept.{AllPairs-filter, AllPairs-from_increasing}
 use Rattle.std.specs.List.{range_with_len}
@@ -80,6 +80,7 @@ steps_more fleet slot some =
         ap (filter (changes fleet)) (sym (map-id (range_with_len 1 (n + 1))))
         ∙ (filter_of_map_range_with_len_more (changes fleet) (λ (x : ℕ). x) 1 n j at
         ∙ ap (λ (xs : List ℕ). filter (changes fleet) xs ++ cond (changes fleet j) (j ∷ []) []) (map-id (range_with_len 1 n)))
+
     by_test : (b : Bool) → map (step_at fleet) (cond b (slot ∷ []) []) ≡ cond b (step_at fleet slot ∷ []) []
     by_test true = refl
     by_test false = refl

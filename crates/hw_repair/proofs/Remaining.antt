@@ -1,8 +1,7 @@
 -- What a plan leaves of a problem permits the timetables that meet the plan, and has their cargo and its limits.
 use Rattle.std.proofs.Common.{◌≡◌, inl, inr, ℕ, suc, ◌+◌, ◌-◌, ◌*◌, ◌<◌, ◌≤◌, max, min, pos, ◌-ℤ◌, Bool, true, false, cond, ◌&&◌, ◌||◌, nat_le, List, [], ◌∷◌, map, Option, Some, None, option_map, slice_get, sum_by, unwrap_or, IfSome, IsSome, IsTrue, All, length, get_or, refl, sym, ap, subst, ◌∙◌, arith}
 use Rattle.std.specs.Prelude.{◌↔◌, ◌≢◌}
-use Rattle.std.specs.List.{range_with_len}
-use Rattle.std.proofs.lemmas.Bool.{cases_lt, cases_Bool, cond_both, le-leb, leb-true, or_right, and_from}
+use Rattle.std.proofs.lemmas.Bool.{cases_lt, cond_both, le-leb, leb-true, or_right, and_from}
 use Rattle.std.proofs.lemmas.Int.{ints}
 use Rattle.std.proofs.lemmas.Option.{slice_get-map, get_or_from_slice_get}
 use Rattle.std.proofs.lemmas.List.{length-map, get_or_past}
@@ -31,10 +30,10 @@ use Rattle.hw_repair.specs.declared.plan.Wish.{Wish}
 use Rattle.hw_repair.specs.declared.plan.Wish.TheVariants.{Kept}
 use Rattle.hw_repair.specs.AsOf.{value_as_of, over_rule, fleet_as_of, steps_of, rule_as_of, as_of, problem_by}
 use Rattle.hw_repair.specs.Laws.{GrantsEach, LeftFits, LeftPermits, LeftCargo}
-use Rattle.hw_repair.specs.Wishes.{PlanParts, IsRepairable, GrantsNow, RestKeeps, KeepsRest, KeepsBy, cargo_by, rest_value, rest_cargo_from, is_kept, is_gone, held_by_gone, held_by_rest}
+use Rattle.hw_repair.specs.Wishes.{IsRepairable, GrantsNow, RestKeeps, KeepsRest, KeepsBy, cargo_by, rest_value, rest_cargo_from, is_kept, is_gone, held_by_gone, held_by_rest}
 use Rattle.hw_repair.proofs.GoneTugs.{SailedIn, in_two_parts, gone_few, rest_later}
 use Rattle.hw_repair.proofs.Hours.{fleet_told, steps_fit, steps_sail, steps_ascend}
-use Rattle.hw_repair.proofs.Leaves.{last_in, as_of_value, as_of_keeps, rest_there, gone_there, sails_now, counts_now, grants_at_all, granted_from_now, grants_now, granted_at}
+use Rattle.hw_repair.proofs.Leaves.{last_in, as_of_value, as_of_keeps, rest_there, sails_now, counts_now, grants_at_all, granted_from_now, grants_now, granted_at}
 use Rattle.hw_repair.proofs.Values.{at_value, value_repairable}
 
 -- ---- a rule that is over
@@ -92,8 +91,8 @@ tugs_hold : (f : Problem) (now : ℕ) (out : List Step) (wishes : List Wish) (ta
 tugs_hold f now out wishes table fleet later jobs fits sailed rest keeps =
     let tugs : ℕ → ℕ = fleet_as_of out wishes fleet later jobs in
     range_all (λ slot. nat_le (sum_by (held_by table slot) jobs) (fleet_in (tugs 0) (steps_of tugs (horizon f)) slot)) 0 (horizon f) (λ slot low high.
-        let lt : slot < horizon f = omega (arith, high) in
-        le-leb _ _ (subst (λ n. sum_by (held_by table slot) jobs ≤ n) (sym (fleet_told tugs (horizon f) slot lt)) (enough f now out wishes table fleet later jobs fits sailed rest keeps slot lt)))
+    let lt : slot < horizon f = omega (arith, high) in
+    le-leb _ _ (subst (λ n. sum_by (held_by table slot) jobs ≤ n) (sym (fleet_told tugs (horizon f) slot lt)) (enough f now out wishes table fleet later jobs fits sailed rest keeps slot lt)))
 
 tugs_keep : (f : Problem) (now : ℕ) (out : List Step) (wishes : List Wish) (table : List ℕ) (fleet : ℕ) (later : List Step) (jobs : List Job) → SailedIn wishes table
     → IsTrue (rule_holds f table (rule_as_of (horizon f) out wishes (Tugs fleet later jobs))) → TugsKeep f now out wishes table fleet later jobs
@@ -143,25 +142,26 @@ to_left f now out wishes table flat same keeps =
     let granted = λ (ship : ℕ) (wish : Wish) (e : slice_get wishes ship ≡ Some wish). if_some (λ wish. GrantsNow now wish (get_or table ship 0)) (slice_get wishes ship) wish e (keeps.granted ship) in
     let sailed : SailedIn wishes table = λ ship kept e. granted ship (Kept kept) e in
     let rest : Later f now wishes table = λ ship lt gone.
-        let w = wish_of f wishes ship same lt in
-        granted_from_now now (get_or table ship 0) w.0 (subst (λ o. is_kept o ≡ false) w.1 gone) (granted ship w.0 w.1) in
-    (record {
-      listed = record { each_ship = listed.each_ship; each_slot = listed.each_slot };
-      sails = λ ship lt.
-          let w = wish_of f wishes ship same lt in
-          let slot : ℕ = get_or table ship 0 in
-          let is : value_at (as_of f now out wishes) ship slot ≡ value_as_of now (Some w.0) slot (value_at f ship slot) =
-              as_of_value f now out wishes ship slot lt (small_slot f.slots table ship (omega (arith, last_slot f flat)) listed.each_slot) ∙ ap (λ o. value_as_of now o slot (value_at f ship slot)) w.1 in
-          subst (λ o. IsSome o) (sym is) (sails_now now slot (value_at f ship slot) w.0 (granted ship w.0 w.1) (λ gone. keeps.sails ship lt (subst (λ o. is_kept o ≡ false) (sym w.1) gone)));
-      keeps = λ place.
-          subst (λ o. IfSome o (λ rule. IsTrue (rule_holds (as_of f now out wishes) table rule))) (sym (slice_get-map (rule_as_of (horizon f) out wishes) f.rules place))
-          (if_mapped (rule_as_of (horizon f) out wishes) (λ rule. IsTrue (rule_holds (as_of f now out wishes) table rule)) (slice_get f.rules place)
-          (if_some_from _ (slice_get f.rules place) (λ rule e.
-              let fits : RuleFits f.ships rule = if_some (RuleFits f.ships) (slice_get f.rules place) rule e (at_place (RuleFits f.ships) f.rules place flat.each_rule) in
-              let kept : RestKeeps f now out wishes table rule = if_some (RestKeeps f now out wishes table) (slice_get f.rules place) rule e (keeps.keeps place) in
-              subst (λ b. IsTrue b) (sym (alike f now out wishes table (rule_as_of (horizon f) out wishes rule))) (rule_to f now out wishes table rule flat fits listed sailed rest kept))));
-    },
-    λ ship. if_some_from _ (slice_get wishes ship) (λ wish e. grants_at_all now (get_or table ship 0) wish (granted ship wish e)))
+    let w = wish_of f wishes ship same lt in
+    granted_from_now now (get_or table ship 0) w.0 (subst (λ o. is_kept o ≡ false) w.1 gone) (granted ship w.0 w.1) in (
+      record {
+        listed = record { each_ship = listed.each_ship; each_slot = listed.each_slot };
+        sails = λ ship lt.
+            let w = wish_of f wishes ship same lt in
+            let slot : ℕ = get_or table ship 0 in
+            let is : value_at (as_of f now out wishes) ship slot ≡ value_as_of now (Some w.0) slot (value_at f ship slot) =
+            as_of_value f now out wishes ship slot lt (small_slot f.slots table ship (omega (arith, last_slot f flat)) listed.each_slot) ∙ ap (λ o. value_as_of now o slot (value_at f ship slot)) w.1 in
+            subst (λ o. IsSome o) (sym is) (sails_now now slot (value_at f ship slot) w.0 (granted ship w.0 w.1) (λ gone. keeps.sails ship lt (subst (λ o. is_kept o ≡ false) (sym w.1) gone)));
+        keeps = λ place.
+            subst (λ o. IfSome o (λ rule. IsTrue (rule_holds (as_of f now out wishes) table rule))) (sym (slice_get-map (rule_as_of (horizon f) out wishes) f.rules place))
+            (if_mapped (rule_as_of (horizon f) out wishes) (λ rule. IsTrue (rule_holds (as_of f now out wishes) table rule)) (slice_get f.rules place)
+            (if_some_from _ (slice_get f.rules place) (λ rule e.
+            let fits : RuleFits f.ships rule = if_some (RuleFits f.ships) (slice_get f.rules place) rule e (at_place (RuleFits f.ships) f.rules place flat.each_rule) in
+            let kept : RestKeeps f now out wishes table rule = if_some (RestKeeps f now out wishes table) (slice_get f.rules place) rule e (keeps.keeps place) in
+            subst (λ b. IsTrue b) (sym (alike f now out wishes table (rule_as_of (horizon f) out wishes rule))) (rule_to f now out wishes table rule flat fits listed sailed rest kept))));
+      },
+      λ ship. if_some_from _ (slice_get wishes ship) (λ wish e. grants_at_all now (get_or table ship 0) wish (granted ship wish e)),
+    )
   where
     last_slot : (f : Problem) → IsFlat f → 0 < f.slots
     last_slot f flat = omega (arith, horizon_le f, flat.some_slot)
@@ -171,13 +171,13 @@ from_left f now out wishes table flat same permits each =
     let listed : IsTimetable f table = record { each_ship = permits.listed.each_ship; each_slot = permits.listed.each_slot } in
     let sailed : SailedIn wishes table = λ ship kept e. granted_at wishes table ship (Kept kept) each e in
     let left : (ship : ℕ) → ship < f.ships → IsSome (value_as_of now (slice_get wishes ship) (get_or table ship 0) (value_at f ship (get_or table ship 0))) = λ ship lt.
-        subst (λ o. IsSome o) (as_of_value f now out wishes ship (get_or table ship 0) lt (All-get_or (λ slot. slot < f.slots) table ship 0 (omega (arith, lt, listed.each_ship)) listed.each_slot)) (permits.sails ship lt) in
+    subst (λ o. IsSome o) (as_of_value f now out wishes ship (get_or table ship 0) lt (All-get_or (λ slot. slot < f.slots) table ship 0 (omega (arith, lt, listed.each_ship)) listed.each_slot)) (permits.sails ship lt) in
     record {
       listed = listed;
       granted = λ ship. if_some_from _ (slice_get wishes ship) (λ wish e.
           let lt : ship < f.ships = omega (arith, get_within wishes ship wish e, same) in
           grants_now now (get_or table ship 0) wish (granted_at wishes table ship wish each e) (λ gone.
-              (rest_there now (slice_get wishes ship) (get_or table ship 0) (value_at f ship (get_or table ship 0)) (subst (λ o. is_kept o ≡ false) (sym e) gone) (left ship lt)).0));
+          (rest_there now (slice_get wishes ship) (get_or table ship 0) (value_at f ship (get_or table ship 0)) (subst (λ o. is_kept o ≡ false) (sym e) gone) (left ship lt)).0));
       sails = λ ship lt gone. (rest_there now (slice_get wishes ship) (get_or table ship 0) (value_at f ship (get_or table ship 0)) gone (left ship lt)).1;
       keeps = λ place. if_some_from _ (slice_get f.rules place) (λ rule e.
           let at : slice_get (map (rule_as_of (horizon f) out wishes) f.rules) place ≡ Some (rule_as_of (horizon f) out wishes rule) = slice_get-map (rule_as_of (horizon f) out wishes) f.rules place ∙ ap (option_map (rule_as_of (horizon f) out wishes)) e in

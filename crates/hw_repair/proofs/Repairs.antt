@@ -1,14 +1,12 @@
 -- The problem of a repair permits what meets the plan, and its best timetables are the best repairs.
 use Rattle.std.proofs.Common.{◌≡◌, inl, inr, ℕ, ◌+◌, ◌-◌, ◌*◌, ◌/◌, ◌%◌, ◌<◌, ◌≤◌, List, Option, Some, None, option_map, slice_get, unwrap_or, IfSome, IsSome, IsTrue, All, length, get_or, refl, sym, ap, subst, ◌∙◌, arith}
 use Rattle.std.proofs.Math.Nat.{mul-le-mul_left}
-use Rattle.std.specs.Prelude.{◌↔◌}
 use Rattle.std.proofs.lemmas.Bool.{cases_lt}
 use Rattle.std.proofs.lemmas.Nat.{div-mul-add, mod-mul-add}
 use Rattle.std.proofs.lemmas.Option.{same_Some, get_or_from_slice_get}
 use Rattle.std.proofs.lemmas.List.Elements.{All-get_or}
 use Rattle.hw_lemmas.proofs.Truths.{if_some, if_some_from}
 use Rattle.hw_lemmas.proofs.Lists.{get_within, has_get}
-use Rattle.hw_plan_texts.specs.Fleets.{lessened}
 use Rattle.hw_plan_texts.specs.Grids.{grid_of_values}
 use Rattle.hw_model.specs.declared.rule.Rule.{Rule}
 use Rattle.hw_plan_texts.proofs.Alike.{rules_alike}
@@ -22,7 +20,7 @@ use Rattle.hw_flat.specs.TextWritten.{IsWritable}
 use Rattle.hw_repair.specs.declared.plan.Judged.{Judged}
 use Rattle.hw_repair.specs.declared.plan.Judged.TheVariants.{WholeDay, FromNow}
 use Rattle.hw_repair.specs.declared.plan.Wish.{Wish}
-use Rattle.hw_repair.specs.AsOf.{problem_by, as_of, left_by}
+use Rattle.hw_repair.specs.AsOf.{problem_by, left_by}
 use Rattle.hw_repair.specs.Wishes.{PlanParts, Grants, IsRepairable, PlanFits, PermitsPlan, plan_cargo, moved, counted}
 use Rattle.hw_repair.specs.Repaired.{repaired_worth, value_by, repaired_by, repaired, own_cargo, own_moved, IsBestRepair}
 use Rattle.hw_repair.specs.Laws.{GrantsEach, RepairedValue, RepairedFits, RepairedPermits, RepairedCargo, CarriesRepaired, RepairedMeets, BestRepair, NoneRepair}
@@ -95,17 +93,18 @@ keeps_from f r table place slots stay h =
 
 to_granted : (g : Problem) (wishes : List Wish) (table : List ℕ) → length wishes ≡ g.ships → Permits (repaired_by g wishes) table → Permits g table × GrantsEach wishes table
 to_granted g wishes table same permits =
-    let listed : IsTimetable g table = record { each_ship = permits.listed.each_ship; each_slot = permits.listed.each_slot } in
-    (record {
-      listed = listed;
-      sails = λ ship lt.
-          let w = wish_of g wishes ship same lt in
-          (value_there g wishes ship (get_or table ship 0) w.0 same w.1 (slot_in g table ship listed lt) (permits.sails ship lt)).1;
-      keeps = λ place. keeps_from (repaired_by g wishes) g table place refl refl (permits.keeps place);
-    },
-    λ ship. if_some_from _ (slice_get wishes ship) (λ wish e.
-        let lt : ship < g.ships = omega (arith, get_within wishes ship wish e, same) in
-        (value_there g wishes ship (get_or table ship 0) wish same e (slot_in g table ship listed lt) (permits.sails ship lt)).0))
+    let listed : IsTimetable g table = record { each_ship = permits.listed.each_ship; each_slot = permits.listed.each_slot } in (
+      record {
+        listed = listed;
+        sails = λ ship lt.
+            let w = wish_of g wishes ship same lt in
+            (value_there g wishes ship (get_or table ship 0) w.0 same w.1 (slot_in g table ship listed lt) (permits.sails ship lt)).1;
+        keeps = λ place. keeps_from (repaired_by g wishes) g table place refl refl (permits.keeps place);
+      },
+      λ ship. if_some_from _ (slice_get wishes ship) (λ wish e.
+          let lt : ship < g.ships = omega (arith, get_within wishes ship wish e, same) in
+          (value_there g wishes ship (get_or table ship 0) wish same e (slot_in g table ship listed lt) (permits.sails ship lt)).0),
+    )
 
 from_granted : (g : Problem) (wishes : List Wish) (table : List ℕ) → length wishes ≡ g.ships → Permits g table → GrantsEach wishes table → Permits (repaired_by g wishes) table
 from_granted g wishes table same permits each =

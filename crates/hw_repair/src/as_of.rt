@@ -1,11 +1,11 @@
 //! What a plan leaves of its problem: fewer tugs, or the problem as of now.
 
-ghost use Rattle.std.specs.Prelude.{◌≡◌, ◌≢◌, ℕ, ◌+◌, ◌-◌, ◌<◌, ◌≤◌, IfOk, Some, length, All, map, max, sum_by};
+ghost use Rattle.std.specs.Prelude.{◌≡◌, ℕ, ◌-◌, ◌<◌, ◌≤◌, IfOk, Some, length, All, map, max, sum_by};
 ghost use Rattle.hw_model.specs.Limits.{JobFits, RuleFits};
 ghost use Rattle.hw_model.specs.Problem.{horizon, value_at};
 ghost use Rattle.hw_model.specs.Rules.{fleet_in};
 ghost use Rattle.hw_repair.specs.AsOf.{value_as_of, over_rule, fleet_as_of, tugs_by, rule_as_of, left_by};
-ghost use Rattle.hw_repair.specs.Wishes.{PlanFits, held_by_gone};
+ghost use Rattle.hw_repair.specs.Wishes.{held_by_gone};
 
 use crate::gone::{held_by_gone, is_gone};
 use crate::plan::{Judged, Plan, Wish};
@@ -22,20 +22,8 @@ fn value_as_of(now: Slot, wish: Wish, slot: Slot, value: Option<u64>) -> Option<
     ensures { result ≡ value_as_of now (Some wish) slot value }
 {
     match wish {
-        Wish::Kept { slot: kept } => {
-            if slot == kept {
-                Some(0)
-            } else {
-                None
-            }
-        }
-        _ => {
-            if slot < now {
-                None
-            } else {
-                value
-            }
-        }
+        Wish::Kept { slot: kept } => { if slot == kept { Some(0) } else { None } }
+        _ => { if slot < now { None } else { value } }
     }
 }
 
@@ -185,11 +173,7 @@ fn rules_as_of(
 }
 
 /// The rules that a plan leaves, in order.
-pub(crate) fn rules_left(
-    alloc: Global,
-    flat: &Flat,
-    plan: &Plan,
-) -> Result<Vec<Rule>, NoMemory>
+pub(crate) fn rules_left(alloc: Global, flat: &Flat, plan: &Plan) -> Result<Vec<Rule>, NoMemory>
     requires each_ship { length plan.now.wishes ≡ flat.now.ships }
     ensures { IfOk result (λ list. list.items ≡ (left_by flat.now plan.now).rules) }
 {

@@ -1,4 +1,4 @@
-use Rattle.std.proofs.Common.{◌≡◌, List, Some, get_or, ap, sym, ◌∙◌}
+use Rattle.std.proofs.Common.{List, Some, get_or, ap, sym, ◌∙◌}
 use Rattle.hw_repair.specs.declared.plan.Wish.{Wish}
 use Rattle.hw_repair.specs.declared.plan.Wish.TheVariants.{Kept}
 use Rattle.hw_repair.specs.AsOf.{value_as_of}
