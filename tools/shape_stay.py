@@ -27,7 +27,6 @@ BY_CHANCE: dict[tuple[str, str], str] = {
     ("hw_draft/src/last.rt", "1_023"): "a port's offset",
     ("hw_draft/src/passage.rt", "1_000"): "a port's clearance",
     ("hw_port_named/src/closed.rt", "1_023"): "a port's offset",
-    ("hw_port_named/src/naming.rt", "1_000"): "a port's numbers",
     ("hw_chart_flat/src/values.rt", "1000"): "parts of a window",
     ("hw_port_lint/src/instance.rt", "40"): "bytes of a name",
     ("hw_port_lint/src/ships.rt", "1_000"): "centimetres of a draft",

@@ -35,6 +35,17 @@ def test_an_object_never_changes(store: Store) -> None:
         db.execute("UPDATE object SET size = 1")
 
 
+def test_hints_are_said_in_words(program: Program) -> None:
+    """What `lint` hints at stands on the board as `tw check` says it; on a day without a date the tide's slots stay."""
+    made = days.make(days.dropped(example("calls-port.json", "calls.csv", "waters-bar.txt", "waters-berth.txt")), program)
+    said = [one.said for one in made.told if one.hint]
+    assert made.good and said[0] == ("the tides end before 15 Mar 04:40, and Grace in needs them up to 15 Mar 04:55, "
+                                     "if she sails last of all: her window is shorter")
+    shallow = [(name, text.replace('"depth":1400', '"depth":14')) for name, text in example("contested.json", "day-tides.csv")]
+    words = [one.said for one in days.make(days.dropped(shallow), program).told if one.hint]
+    assert "14 cm of depth: are these metres?" in words and not any("1970" in said or " Jan " in said for said in words)
+
+
 def test_all_or_nothing(store: Store) -> None:
     with pytest.raises(RuntimeError), store.change() as db:
         db.execute("INSERT INTO day(name) VALUES ('x')")

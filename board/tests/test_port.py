@@ -165,7 +165,7 @@ class Third(unittest.TestCase):
         self.assertEqual(made(SHIPS.replace("2027-03-14", "1999-12-31"), early)["start"], "1999-12-31 00:05")
 
     def test_closed(self):
-        # Slot 0 begins at 03:40, and slot 8 at 05:40; a slot is closed if a moment of it is.
+        # Slot 0 begins at 03:40, and slot 8 at 05:40; a slot counts as closed if any moment of it is.
         day = "2027-03-14 "
         for first, last, found in [
                 (day + "05:40", day + "05:55", slots((8, 8))), (day + "05:41", day + "05:56", slots((8, 9))),

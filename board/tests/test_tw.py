@@ -83,12 +83,30 @@ def test_a_survey_changes_what_a_ship_can_load(tw: Tw, port: str) -> None:
     ("Hector not before 9", "no sentence of the log"), ("Hector not before 29:00", "29:00 doesn't exist"),
     ("close Sea 14:00 to 15:00", "Sea is no waypoint"), ("tugs 99 out from 08:00", "the port has 9 tugs"),
     ("close Bar 2027-03-14 14:00 to 2027-03-14 13:00", "the end has to be after the beginning"),
-    ("Hector sailed at 2027-04-01 10:00", "the day goes from 2027-03-14 03:40"), ("", "no plan"), ("x" * 400, "more than 300")])
+    ("Hector sailed at 2027-04-01 10:00", "the day goes from 2027-03-14 03:40"),
+    ("Hector not before 14.3. 23:00", "14.3. is no date of the form 2027-03-14"), ("sailed Hector 14.3. 07:10", "14.3. is no date of the form 2027-03-14"),
+    ("close Bar 14/03/2027 14:00 to 15:00", '"dates": "dmy" or "mdy" in port.json?'), ("", "no plan"), ("x" * 400, "more than 300")])
 def test_what_cant_be_is_refused_with_its_reason(tw: Tw, port: str, sentence: str, why: str) -> None:
     if sentence:
         tw("plan", port)
     done = tw("log", "--in", port, sentence or "Hector stays")
     assert done.status == 4 and done.out == "" and why in done.err and not os.path.exists(os.path.join(port, "log.csv"))
+
+
+def test_a_date_in_the_ports_order(tw: Tw, port: str) -> None:
+    """A sentence takes a date as the port's tables do, and a ship's name may end with such figures."""
+    changed(port, "port.json", '"slots"', '"dates":"dmy","slots"')
+    changed(port, "ships.csv", "Hector,", "Hector 1.2,")
+    for name, days in (("ships.csv", ["14"]), ("tides/Bar.txt", ["13", "14", "15"]), ("tides/Berth.txt", ["13", "14", "15"])):
+        for day in days:
+            changed(port, name, f"2027-03-{day}", f"{day}.03.2027")
+    tw("plan", port)
+    assert tw("log", "--in", port, "sailed Hector 1.2 07:10").out.startswith("noted: Hector 1.2 sailed at 2027-03-14 07:10\n")
+    assert tw("log", "--in", port, "Iris not before 14.3.2027 08:00").out.startswith("noted: Iris not before 2027-03-14 08:00\n")
+    assert tw("log", "--in", port, "close Bar 14/3/2027 20:00 to 2027-03-14 21:00").out.startswith(
+        "noted: Bar closed from 2027-03-14 20:00 to 2027-03-14 21:00\n")
+    done = tw("log", "--in", port, "Iris not before 14.3. 09:00")
+    assert done.status == 4 and "14.3. is no date of the form day, month, year, with a year of four digits" in done.err
 
 
 def test_a_ship_sails_once(tw: Tw, port: str) -> None:

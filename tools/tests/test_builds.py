@@ -25,6 +25,15 @@ def test_a_copy_has_the_name_and_the_repository_not(clone: Clone) -> None:
     assert not [*room.glob("crates/*/out")]
 
 
+def test_a_folder_that_is_no_crate_isnt_copied(clone: Clone) -> None:
+    commit = clone.commit()
+    (clone.made.crates / "out").mkdir()
+    clone.made.put("crates/left/out/rlib/stamp", "1")
+    ran = clone.run("named_copy", str(clone.top / "room/copy"), "unproved")
+    assert (ran.returncode, ran.stdout) == (0, f"unproved {commit}\n")
+    assert sorted(path.name for path in (clone.top / "room/copy/crates").iterdir()) == ["hw_low", "tidewise"]
+
+
 def test_what_isnt_committed_has_no_commit(clone: Clone) -> None:
     def name(copy: str) -> str:
         return clone.run("named_copy", str(clone.top / "room" / copy), "proved").stdout

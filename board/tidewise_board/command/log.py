@@ -38,8 +38,8 @@ def command(sentence: tuple[str, ...], now: str | None, who: str | None, **asked
     tugs 3 out from 15:00 to 18:00       tugs 2 back at 17:00
     close Bar 14:00 to 16:00             close port 14:00 to 16:00
 
-    A time may have its date: 2027-03-15 02:00, 15 Mar 02:00, Mon 02:00. Without SENTENCE the log is printed. To take back what was said,
-    delete its line in log.csv.
+    A time may have its date: 2027-03-15 02:00, 15 Mar 02:00, Mon 02:00, or one in the order of `dates` in port.json. Without SENTENCE the log
+    is printed. To take back what was said, delete its line in log.csv.
 
     \b
     Example: tw log "Corvo not before 02:00"

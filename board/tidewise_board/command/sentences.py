@@ -17,9 +17,12 @@ from ..library.faults import Refused
 from ..library.folder import Folder, one_of
 
 LONGEST = 300
-TIME = r"(?:(?:[0-9]{4}-[0-9]{2}-[0-9]{2}|[0-9]{1,2}\.? [a-z]{3,9}\.?(?: [0-9]{4})?|(?:mon|tue|wed|thu|fri|sat|sun)[a-z]*)[t ]+)?[0-9]{1,2}:?[0-9]{2}"
+# Times with a date that no name ends with, and then those with any date of figures, which a ship's name may end with too: `Brisa 1.2`.
+DAYS = r"[0-9]{4}-[0-9]{2}-[0-9]{2}|[0-9]{1,2}\.? [a-z]{3,9}\.?(?: [0-9]{4})?|(?:mon|tue|wed|thu|fri|sat|sun)[a-z]*"
+FIGURES = r"[0-9]{1,4}[-./][0-9]{1,4}(?:[-./][0-9]{0,4})?"
+TIMES = [rf"(?:(?:{days})[t ]+)?[0-9]{{1,2}}:?[0-9]{{2}}" for days in (DAYS, f"{DAYS}|{FIGURES}")]
 FORMS = "such as `Corvo not before 02:00`, `sailed Brisa 13:40`, `tugs 3 out from 15:00 to 18:00`, `close Bar 14:00 to 16:00`, `Corvo stays`"
-OUT = rf"out(?: from (?P<first>{TIME}))?(?: to (?P<last>{TIME})| until further notice)?"
+OUT = r"out(?: from (?P<first>TIME))?(?: to (?P<last>TIME)| until further notice)?"
 PORT = ("port", "the port")
 
 
@@ -32,30 +35,33 @@ class Reader:
         self.folder, self.planned, self.now = folder, planned, now
         self.forms: list[tuple[str, Callable[[re.Match[str]], Event]]] = [
             (rf"(?:tugs (?P<count>[0-9]+)|(?P<number>[0-9]+) tugs?) {OUT}", self.tugs_out),
-            (rf"(?:tugs (?P<count>[0-9]+)|(?P<number>[0-9]+) tugs?) back(?:(?: at)? (?P<first>{TIME}))?", self.tugs_back),
-            (rf"(?:ship )?(?P<ship>.+) not before (?P<first>{TIME})", self.not_before),
-            (rf"(?:ship )?(?P<ship>.+) sailed(?: at)? (?P<first>{TIME})", self.sailed),
-            (rf"sailed (?P<ship>.+?)(?: at)? (?P<first>{TIME})", self.sailed),
+            (r"(?:tugs (?P<count>[0-9]+)|(?P<number>[0-9]+) tugs?) back(?:(?: at)? (?P<first>TIME))?", self.tugs_back),
+            (r"(?:ship )?(?P<ship>.+) not before (?P<first>TIME)", self.not_before),
+            (r"(?:ship )?(?P<ship>.+) sailed(?: at)? (?P<first>TIME)", self.sailed),
+            (r"sailed (?P<ship>.+?)(?: at)? (?P<first>TIME)", self.sailed),
             (r"(?:ship )?(?P<ship>.+) stays|stays (?P<other>.+)", self.stays),
             (r"(?:ship )?(?P<ship>.+) loads to (?P<metres>[0-9]{1,2}(?:[.,][0-9]{1,2})?) ?m?(?: at most)?", self.surveyed),
             (r"survey (?P<ship>.+) (?P<metres>[0-9]{1,2}(?:[.,][0-9]{1,2})?) ?m?", self.surveyed),
-            (rf"close (?P<where>.+?)(?: from)? (?P<first>{TIME}) to (?P<last>{TIME})", self.closed),
-            (rf"(?P<where>.+) closed(?: from)? (?P<first>{TIME}) to (?P<last>{TIME})", self.closed)]
+            (r"close (?P<where>.+?)(?: from)? (?P<first>TIME) to (?P<last>TIME)", self.closed),
+            (r"(?P<where>.+) closed(?: from)? (?P<first>TIME) to (?P<last>TIME)", self.closed)]
 
     def read(self, sentence: str) -> Event:
         """The event that a sentence says; `Refused` where it says none, or names nothing of this day."""
         text = " ".join(sentence.split())
         if len(text) > LONGEST:
             raise Refused(f"a sentence of more than {LONGEST} letters")
-        refusals = []
-        for form, made in self.forms:
-            found = re.fullmatch(form, text, re.IGNORECASE)
-            if found:
-                try:
-                    return made(found)
-                except Refused as cause:
-                    refusals.append(cause)
-        raise refusals[0] if refusals else Refused(f"{text} is no sentence of the log, {FORMS}")
+        refusal = None
+        for time in TIMES:
+            refusals = []
+            for form, made in self.forms:
+                found = re.fullmatch(form.replace("TIME", time), text, re.IGNORECASE)
+                if found:
+                    try:
+                        return made(found)
+                    except Refused as cause:
+                        refusals.append(cause)
+            refusal = refusals[0] if refusals else refusal
+        raise refusal or Refused(f"{text} is no sentence of the log, {FORMS}")
 
     def said(self, event: Event) -> str:
         """The sentence with whole dates, which reads as this event whatever the time."""

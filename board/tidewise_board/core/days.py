@@ -5,7 +5,7 @@ import csv
 import io
 import json
 import re
-from dataclasses import asdict, dataclass, field
+from dataclasses import asdict, dataclass, field, replace
 from typing import Any
 
 from ..library import port as port_script
@@ -15,9 +15,11 @@ from ..library.faults import Fault as Misplaced
 from ..library.faults import Refused, Wrong
 from ..library.faults import Told as At
 from ..library.heads import Row, cells_of, column_of, under_head
+from ..library.linted import sentence_of
 from ..library.tides import Listing, Options, listing_of, table_of
 from .program import Program, Text
 from .reading import Fault, faults_of
+from .variants import clock_of
 
 # The members of a ship that a sheet over a whole instance shows.
 MEMBERS = ["name", "direction", "class", "earliest", "latest", "tpc", "light", "deep", "tugs", "job", "may_stay"]
@@ -306,6 +308,20 @@ def listing(one: dict[str, str]) -> Listing:
     return Listing(waypoint, waypoint, waypoint, change, one["text"].encode())
 
 
+def in_words(fault: Fault, instance: str) -> Fault:
+    """A hint as a sentence. On a day that doesn't say when it begins, a hint on the tide keeps its slots."""
+    if not fault.hint:
+        return fault
+    try:
+        day = json.loads(instance)
+        clock = clock_of(day)
+    except (ValueError, KeyError, TypeError, Refused):
+        return fault
+    if fault.place == "tides" and "start" not in day:
+        return fault
+    return replace(fault, said=sentence_of(fault.said, clock) or fault.said)
+
+
 def placed(fault: Fault, source: Source, rows: list[Row]) -> Told:
     """A fault of the program at its cell: its ships count from 0, and a row of a table may be none of them, or two."""
     found = re.fullmatch(r"ships\.([0-9]+)(?:\.([a-z_]+))?.*", fault.place)
@@ -330,5 +346,5 @@ def make(source: Source, program: Program) -> Made:
         return Made(instance, tides, told)
     store = program.store
     said = program.ask("lint", Text(store.put(instance.encode()), "day.json"), Text(store.put(tides.encode()), "tides.csv"))
-    told += [placed(fault, source, written.rows) for fault in faults_of(said.output)]
+    told += [placed(in_words(fault, instance), source, written.rows) for fault in faults_of(said.output)]
     return Made(instance, tides, told, written.rows)

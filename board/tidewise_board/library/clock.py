@@ -6,7 +6,7 @@ from dataclasses import dataclass
 from datetime import date
 
 from .dates import DAY, clock_of, day_of, shortened, written
-from .faults import Refused
+from .faults import Refused, in_folder
 
 MONTHS = ["Jan", "Feb", "Mar", "Apr", "May", "Jun", "Jul", "Aug", "Sep", "Oct", "Nov", "Dec"]
 DAYS = ["mon", "tue", "wed", "thu", "fri", "sat", "sun"]
@@ -85,7 +85,10 @@ class Clock:
         """A date as 2027-03-15, or as 15 Mar in the year nearest to slot 0."""
         found = re.fullmatch(r"([0-9]{1,2})\.? ([A-Za-z]{3})[a-z]*\.?(?: ([0-9]{4}))?", text)
         if not found:
-            return day_of(text) if self.order is None or re.match("[0-9]{4}-", text) else day_of(text, self.order)
+            try:
+                return day_of(text, None if re.match("[0-9]{4}-", text) else self.order)
+            except Refused as cause:
+                raise Refused(in_folder(str(cause))) from None
         month = found[2].capitalize()
         if month not in MONTHS:
             raise Refused(f"{shortened(text)} is no date, such as 15 Mar")

@@ -9,6 +9,18 @@ def printable(text: str) -> str:
     return "".join(one if one.isprintable() or one == "\n" else one.encode("unicode_escape").decode() for one in text)
 
 
+# How an option of the scripts is said in a folder.
+SAID = {"(--dates dmy or mdy?)": '("dates": "dmy" or "mdy" in port.json?)',
+        "(--one-clock if neither)": '("tides": {"one_clock": true} in port.json if neither)'}
+
+
+def in_folder(said: str) -> str:
+    """What is said, with members of port.json where the scripts have options."""
+    for option, member in SAID.items():
+        said = said.replace(option, member)
+    return said
+
+
 class Refused(Exception):
     """An input can't be used; the text says which one, where and why."""
 

@@ -19,7 +19,7 @@ from typing import TypeVar
 from .base import Port, read_port
 from .clock import Clock
 from .dates import DAY, day_of
-from .faults import Refused, Told, Wrong
+from .faults import Refused, Told, Wrong, in_folder
 from .heads import Row, cells_of
 from .port import Made, made_of, text_of
 from .tides import Listing, Options, listing_of, table_of
@@ -253,19 +253,6 @@ def calls_in(made: Made) -> list[Call]:
     return [Call(ships[incoming]["name"].removesuffix(" in"), incoming, outgoing) for incoming, outgoing in made.calls]
 
 
-# How an option of the scripts is said in a folder.
-SAID = {"(--dates dmy or mdy?)": '("dates": "dmy" or "mdy" in port.json?)',
-        "(--one-clock if neither)": '("tides": {"one_clock": true} in port.json if neither)'}
-
-
-def in_folder(told: Told) -> Told:
-    """What is told, with members of port.json where the scripts have options."""
-    said = told.said
-    for option, member in SAID.items():
-        said = said.replace(option, member)
-    return replace(told, said=said)
-
-
 def look(root: str, day: str | None = None) -> Looked:
     """All that is told of a port's folder, and what it says if there is no fault. `day` is the date of slot 0, as 2027-03-15; without
     it that is what port.json says."""
@@ -278,7 +265,7 @@ def look(root: str, day: str | None = None) -> Looked:
     log = reading.tried(log_of, reading)
     if made is not None:
         reading.told += made.hints
-    reading.told = list(map(in_folder, reading.told))
+    reading.told = [replace(told, said=in_folder(told.said)) for told in reading.told]
     if made is None or tides is None or log is None:
         return Looked(reading.told, None)
     clock = Clock(made.port.start, made.port.minutes, made.port.slots, made.port.order)

@@ -18,6 +18,7 @@ use Rattle.hw_audit.specs.Watching.{Watched, watched, IsWatched, after_all}
 use Rattle.hw_audit.proofs.Begun.{of_port, watched_first}
 use Rattle.hw_audit.proofs.PortRules.{Each2, all_pairs, all_berths, all_after}
 use Rattle.hw_audit.proofs.Taken.{all_taken}
+use Rattle.hw_repair.specs.declared.plan.Judged.TheVariants.{WholeDay}
 use Rattle.hw_repair.specs.Text.{rule_has_tugs}
 use Rattle.hw_repair.specs.Wishes.{WishFits, IsRepairable, PlanFits}
 use Rattle.hw_repair.proofs.Written.{written_reads}
@@ -29,21 +30,22 @@ use Rattle.hw_audit.proofs.Values.{values_repairable}
 
 -- ---- the wishes
 
-wish_fits : (slots day planned slot : ℕ) (gone : Bool) → day < slots → planned < slots → slot < slots → WishFits slots (wish_now day gone planned slot)
-wish_fits slots day planned slot true early low here = here
-wish_fits slots day planned slot false early low here =
-    let some : 1 ≤ slots = omega (arith, early) in
-    let le = earliest_from day planned slot (slots - 1) (omega (arith, early)) (λ ne. omega (arith, here)) in
+wish_fits : (f : Problem) (withdrawn day planned slot : ℕ) (gone : Bool) → day < f.slots → planned < f.slots → slot < f.slots → WishFits f (WholeDay withdrawn) (wish_now day gone planned slot)
+wish_fits f withdrawn day planned slot true early low here = here
+wish_fits f withdrawn day planned slot false early low here =
+    let some : 1 ≤ f.slots = omega (arith, early) in
+    let le = earliest_from day planned slot (f.slots - 1) (omega (arith, early)) (λ ne. omega (arith, here)) in
     (low, omega (arith, le, some))
 
-wishes_fit : (slots day : ℕ) (sailed : List Bool) (table now : List ℕ) → day < slots → All (λ slot. slot < slots) table → All (λ slot. slot < slots) now → All (WishFits slots) (wishes_now day sailed table now)
-wishes_fit slots day [] table now early low here = All-nil (WishFits slots)
-wishes_fit slots day (gone ∷ sailed) [] now early low here = All-nil (WishFits slots)
-wishes_fit slots day (gone ∷ sailed) (planned ∷ table) [] early low here = All-nil (WishFits slots)
-wishes_fit slots day (gone ∷ sailed) (planned ∷ table) (slot ∷ now) early low here =
-    All-cons (WishFits slots) (wish_now day gone planned slot) (wishes_now day sailed table now)
-    (wish_fits slots day planned slot gone early (All-head (λ slot. slot < slots) planned table low) (All-head (λ slot. slot < slots) slot now here))
-    (wishes_fit slots day sailed table now early (All-tail (λ slot. slot < slots) planned table low) (All-tail (λ slot. slot < slots) slot now here))
+wishes_fit : (f : Problem) (withdrawn day : ℕ) (sailed : List Bool) (table now : List ℕ) → day < f.slots → All (λ slot. slot < f.slots) table → All (λ slot. slot < f.slots) now
+    → All (WishFits f (WholeDay withdrawn)) (wishes_now day sailed table now)
+wishes_fit f withdrawn day [] table now early low here = All-nil (WishFits f (WholeDay withdrawn))
+wishes_fit f withdrawn day (gone ∷ sailed) [] now early low here = All-nil (WishFits f (WholeDay withdrawn))
+wishes_fit f withdrawn day (gone ∷ sailed) (planned ∷ table) [] early low here = All-nil (WishFits f (WholeDay withdrawn))
+wishes_fit f withdrawn day (gone ∷ sailed) (planned ∷ table) (slot ∷ now) early low here =
+    All-cons (WishFits f (WholeDay withdrawn)) (wish_now day gone planned slot) (wishes_now day sailed table now)
+    (wish_fits f withdrawn day planned slot gone early (All-head (λ slot. slot < f.slots) planned table low) (All-head (λ slot. slot < f.slots) slot now here))
+    (wishes_fit f withdrawn day sailed table now early (All-tail (λ slot. slot < f.slots) planned table low) (All-tail (λ slot. slot < f.slots) slot now here))
 
 some_slots : (stay : Bool) (slots : ℕ) → 1 ≤ cond stay (slots - 1) slots → 1 ≤ slots
 some_slots true slots some = omega (arith, some)
@@ -57,8 +59,9 @@ fits f fleet table s flat is kept values =
     let in' : get_or s.table other 0 < f.slots = All-get_or (λ slot. slot < f.slots) s.table other 0 (omega (arith, lt, same.now)) kept.listed.each_slot in
     omega (arith, in')) in
     record {
+      time = tt;
       each_ship = wishes_many (reached s.sailed s.table) s.sailed table s.table same.planned same.now ∙ kept.each_ship;
-      each_wish = wishes_fit f.slots (reached s.sailed s.table) s.sailed table s.table (omega (arith, day, some)) is.each_slot kept.listed.each_slot;
+      each_wish = wishes_fit f s.withdrawn (reached s.sailed s.table) s.sailed table s.table (omega (arith, day, some)) is.each_slot kept.listed.each_slot;
       each_value = values;
     }
 
@@ -94,4 +97,4 @@ carried_reads p h place table events kept listed taken =
     let kept_on : IsWatched f (whole p.fleet) s = all_taken f (whole p.fleet) place (watched table) events (watched_first f (whole p.fleet) table is) taken in
     let few : whole p.fleet ≤ 1_000 = (within 0 1_000 p.fleet kept.fleet).2 in
     let flat : IsFlat f = (flattened_fits_law p h kept).0 in
-    written_reads f (carried_plan table s) flat (fits f (whole p.fleet) table s flat is kept_on (values_repairable p h kept flat.few_ships)) (omega (arith, few, kept_on.few)) (port_has p s.withdrawn kept_on.few)
+    written_reads f (carried_plan table s) flat (fits f (whole p.fleet) table s flat is kept_on (values_repairable p h kept flat.few_ships)) (omega (arith, few, kept_on.few), port_has p s.withdrawn kept_on.few)

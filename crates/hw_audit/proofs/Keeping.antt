@@ -14,7 +14,8 @@ use Rattle.hw_model.specs.Rules.{held_by, pair_holds, fleet_in}
 use Rattle.hw_model.specs.Timetables.{restriction_holds, holds_at}
 use Rattle.hw_audit.specs.declared.marks.Concern.TheVariants.{Ship, Fleet}
 use Rattle.hw_plan_texts.specs.Fleets.{lessened, lessened_step, lessened_rule}
-use Rattle.hw_audit.specs.Keeping.{TugsComeLast, jobs_of_tug_rule, last_jobs, AreHeld, holds_now, decided_by_held_tugs, concerns, AreMarks, AreOtherMarks, kept_holds}
+use Rattle.hw_audit.specs.Keeping.{TugsComeLast, last_jobs, AreHeld, holds_now, decided_by_held_tugs, concerns, AreMarks, AreOtherMarks, kept_holds}
+use Rattle.hw_rules.specs.Fleets.{jobs_in}
 
 -- ---- each rule decided
 
@@ -39,7 +40,7 @@ fewer_in withdrawn slot fleet (step ∷ later) =
 own_jobs : (rules : List Rule) (place fleet : ℕ) (later : List Step) (jobs : List Job) → TugsComeLast rules → slice_get rules place ≡ Some (Tugs fleet later jobs) → last_jobs rules ≡ jobs
 own_jobs rules place fleet later jobs last e =
     let at : length rules - 1 ≡ place = omega (arith, last place fleet later jobs e) in
-    ap (λ n. jobs_of_tug_rule (slice_get rules n)) at ∙ ap jobs_of_tug_rule e
+    ap (λ n. jobs_in (slice_get rules n)) at ∙ ap jobs_in e
 
 pub kept_decides : (f : Problem) (table held : List ℕ) (withdrawn place : ℕ) (rule : Rule) → TugsComeLast f.rules → AreHeld f table held → slice_get f.rules place ≡ Some rule → decided_by_held_tugs f table held withdrawn rule ≡ holds_now f table withdrawn rule
 kept_decides f table held withdrawn place (Pair v w holes) last are e = refl

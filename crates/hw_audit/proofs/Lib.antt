@@ -11,3 +11,5 @@ pub mod Days
 pub mod Values
 pub mod Meeting
 pub mod CarriedBack
+pub mod PlanTugs
+pub mod PortPlans

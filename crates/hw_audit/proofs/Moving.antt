@@ -13,7 +13,9 @@ use Rattle.hw_model.specs.declared.rule.Rule.TheVariants.{Pair, After, Tugs}
 use Rattle.hw_model.specs.Problem.{Problem}
 use Rattle.hw_model.specs.Limits.{IsFlat, RuleFits, JobFits}
 use Rattle.hw_model.specs.Rules.{held_by}
-use Rattle.hw_audit.specs.Keeping.{jobs_of_tug_rule, last_jobs, held_from, held_at}
+use Rattle.hw_audit.specs.Keeping.{last_jobs, held_at}
+use Rattle.hw_repair.specs.Wishes.{held_from}
+use Rattle.hw_rules.specs.Fleets.{jobs_in}
 
 -- ---- where a ship has another slot, the tugs held change by its own job's
 
@@ -80,7 +82,7 @@ own_most ship at slot ships jobs fit = sum_by-le (held_at ship at slot) 64 jobs 
 
 -- ---- the jobs of the last rule
 
-jobs_fit : (ships : ℕ) (o : Option Rule) → IfSome o (RuleFits ships) → (length (jobs_of_tug_rule o) ≤ 40) × All (JobFits ships) (jobs_of_tug_rule o)
+jobs_fit : (ships : ℕ) (o : Option Rule) → IfSome o (RuleFits ships) → (length (jobs_in o) ≤ 40) × All (JobFits ships) (jobs_in o)
 jobs_fit ships None fits = (omega arith, All-nil (JobFits ships))
 jobs_fit ships (Some (Pair v w holes)) fits = (omega arith, All-nil (JobFits ships))
 jobs_fit ships (Some (After v w gap)) fits = (omega arith, All-nil (JobFits ships))

@@ -1,6 +1,7 @@
 -- The plan that a timetable and the events of a day so far leave, by the state after them; and what it says of a timetable.
 use Rattle.std.specs.Prelude.{◌≡◌, ◌≢◌, ◌==◌, ℕ, ◌<◌, ◌≤◌, Bool, true, false, ◌&&◌, not, nat_lt, if◌then◌else◌, List, [], ◌∷◌, length, slice_index}
 use Rattle.hw_audit.specs.Watching.{Watched, has_sailed}
+use Rattle.hw_repair.specs.declared.plan.Judged.TheVariants.{WholeDay}
 use Rattle.hw_repair.specs.declared.plan.Wish.{Wish}
 use Rattle.hw_repair.specs.declared.plan.Wish.TheVariants.{Kept, Planned}
 use Rattle.hw_repair.specs.Wishes.{PlanParts}
@@ -28,7 +29,7 @@ wishes_now day (gone ∷ sailed) (planned ∷ table) (slot ∷ slots) = wish_now
 
 -- the plan of the timetable, after events that led to this state
 abbrev pub carried_plan : List ℕ → Watched → PlanParts
-carried_plan table s = record { withdrawn = s.withdrawn; wishes = wishes_now (reached s.sailed s.table) s.sailed table s.table }
+carried_plan table s = record { judged = WholeDay s.withdrawn; wishes = wishes_now (reached s.sailed s.table) s.sailed table s.table }
 
 -- ---- the same in words
 

@@ -1,5 +1,5 @@
 -- What an audit keeps besides its state, so that it tests again only what an event concerns.
-use Rattle.std.specs.Prelude.{◌≡◌, ◌==◌, ℕ, ◌+◌, ◌-◌, ◌<◌, Bool, true, false, ◌||◌, ◌&&◌, nat_le, nat_lt, is_some, if◌then◌else◌, List, [], length, sum_by, Option, Some, None, slice_get, slice_index, slice_index_or}
+use Rattle.std.specs.Prelude.{◌≡◌, ◌==◌, ℕ, ◌+◌, ◌-◌, ◌<◌, Bool, true, false, ◌||◌, ◌&&◌, nat_le, nat_lt, is_some, if◌then◌else◌, List, length, sum_by, Some, slice_get, slice_index, slice_index_or}
 use Rattle.std.specs.List.{list_all, range_with_len}
 use Rattle.hw_model.specs.declared.rule.Job.{Job}
 use Rattle.hw_model.specs.declared.rule.Rule.{Rule}
@@ -11,6 +11,8 @@ use Rattle.hw_audit.specs.declared.marks.Concern.{Concern}
 use Rattle.hw_audit.specs.declared.marks.Concern.TheVariants.{Every, Ship, Fleet}
 use Rattle.hw_plan_texts.specs.Fleets.{lessened, lessened_rule}
 use Rattle.hw_audit.specs.Watching.{Watched}
+use Rattle.hw_repair.specs.Wishes.{held_from}
+use Rattle.hw_rules.specs.Fleets.{jobs_in}
 
 -- ---- tugs
 
@@ -18,22 +20,11 @@ use Rattle.hw_audit.specs.Watching.{Watched}
 abbrev pub TugsComeLast : List Rule → Type 0
 TugsComeLast rules = (place fleet : ℕ) (later : List Step) (jobs : List Job) → slice_get rules place ≡ Some (Tugs fleet later jobs) → place + 1 ≡ length rules
 
--- the jobs of a rule on tugs
-abbrev pub jobs_of_tug_rule : Option Rule → List Job
-jobs_of_tug_rule None = []
-jobs_of_tug_rule (Some (Pair v w holes)) = []
-jobs_of_tug_rule (Some (After v w gap)) = []
-jobs_of_tug_rule (Some (Tugs fleet later jobs)) = jobs
-
 -- the jobs of the last rule, where that is on tugs
 abbrev pub last_jobs : List Rule → List Job
-last_jobs rules = jobs_of_tug_rule (slice_get rules (length rules - 1))
+last_jobs rules = jobs_in (slice_get rules (length rules - 1))
 
--- the tugs that a job holds in a slot if its ship sails in slot `at`
-abbrev pub held_from : ℕ → ℕ → Job → ℕ
-held_from at slot job = if nat_le at slot && nat_lt slot (at + job.hold) then job.tugs else 0
-
--- the same of a job of this ship, and nothing of the others
+-- the tugs that a job of this ship holds in a slot if the ship sails in slot `at`, and nothing of the others
 abbrev pub held_at : ℕ → ℕ → ℕ → Job → ℕ
 held_at ship at slot job = if job.ship == ship then held_from at slot job else 0
 

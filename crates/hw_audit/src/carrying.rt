@@ -2,7 +2,8 @@
 
 ghost use Rattle.std.specs.Prelude.{◌≡◌, length};
 ghost use Rattle.hw_desk.specs.Writers.{Puts};
-ghost use Rattle.hw_repair.specs.Written.{opening_text, wish_text, wishes_text, written_plan};
+ghost use Rattle.hw_repair.specs.declared.plan.Judged.TheVariants.{WholeDay};
+ghost use Rattle.hw_repair.specs.Written.{one_number_line, two_numbers_line, opening_text, wish_text, wishes_text, written_plan};
 ghost use Rattle.hw_audit.specs.Carried.{carried_plan, earliest, reached, wish_now, wishes_now};
 
 use crate::audit::Audit;
@@ -49,23 +50,35 @@ fn wish_now(day: Slot, gone: bool, planned: Slot, slot: Slot) -> Wish
     }
 }
 
-/// Puts the line of a ship.
-fn put_wish<W: Writer>(out: &mut W, wish: Wish)
+/// Puts a line of a key and a number.
+pub fn put_line<W: Writer>(out: &mut W, key: &[u8], n: u32)
+    ensures { Puts (one_number_line key.now n) (W.state out.old) (W.state out.new) }
+{
+    out.put(key);
+    out.put_number(u64::from(n));
+    out.put(b"\n");
+}
+
+/// Puts a line of a key and two numbers.
+pub fn put_long_line<W: Writer>(out: &mut W, key: &[u8], n: u32, m: u32)
+    ensures { Puts (two_numbers_line key.now n m) (W.state out.old) (W.state out.new) }
+{
+    out.put(key);
+    out.put_number(u64::from(n));
+    out.put(b" ");
+    out.put_number(u64::from(m));
+    out.put(b"\n");
+}
+
+/// Puts the line of a ship in a plan. It takes no memory.
+pub fn put_wish<W: Writer>(out: &mut W, wish: Wish)
     ensures { Puts (wish_text wish) (W.state out.old) (W.state out.new) }
 {
     match wish {
-        Wish::Kept { slot } => {
-            out.put(b"k ");
-            out.put_number(u64::from(slot));
-            out.put(b"\n");
-        }
-        Wish::Planned { slot, from } => {
-            out.put(b"o ");
-            out.put_number(u64::from(slot));
-            out.put(b" ");
-            out.put_number(u64::from(from));
-            out.put(b"\n");
-        }
+        Wish::Kept { slot } => put_line(out, b"k ", slot),
+        Wish::Fixed { slot } => put_line(out, b"f ", slot),
+        Wish::Planned { slot, from } => put_long_line(out, b"o ", slot, from),
+        Wish::New { from } => put_line(out, b"n ", from),
     }
 }
 
@@ -85,14 +98,12 @@ fn put_wishes<W: Writer>(out: &mut W, day: Slot, sailed: &[bool], planned: &[Slo
 
 /// Puts the lines before those of the ships.
 fn put_opening<W: Writer>(out: &mut W, withdrawn: u32)
-    ensures { Puts (opening_text withdrawn) (W.state out.old) (W.state out.new) }
+    ensures { Puts (opening_text (WholeDay withdrawn)) (W.state out.old) (W.state out.new) }
 {
     if withdrawn == 0 {
         out.put(b"plan 1\n");
     } else {
-        out.put(b"plan 2\nw ");
-        out.put_number(u64::from(withdrawn));
-        out.put(b"\n");
+        put_line(out, b"plan 2\nw ", withdrawn);
     }
 }
 

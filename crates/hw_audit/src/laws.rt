@@ -2,6 +2,7 @@
 
 ghost use Rattle.hw_audit.specs.Calls.{CallRows};
 ghost use Rattle.hw_audit.specs.Laws.{TakenKeeps, AllTakenKeep, LessenedFits, BrokenExactly, NoneBroken, NoneBrokenFirst, NonePortBroken, NonePortBrokenAfter, SameTimetables};
+ghost use Rattle.hw_audit.specs.PortPlans.{PortPlan};
 ghost use Rattle.hw_audit.specs.Rows.{WatchRows, AuditTextRows};
 
 /// A state keeps its limits through an event that is taken.
@@ -49,6 +50,12 @@ pub fn none_port_broken()
 /// The same after any events that were all taken, from a timetable of the port on.
 pub fn none_port_broken_after()
     ensures { NonePortBrokenAfter }
+{}
+
+/// A timetable meets a plan that knows the time by the port's own words exactly where it meets it by the
+/// port's flat problem, and then the ships that aren't gone carry the same by both.
+pub fn port_plan()
+    ensures { PortPlan }
 {}
 
 /// Worked rows: what is broken after events, and which are refused.

@@ -20,11 +20,12 @@ mod tugs;
 
 pub use audit::Audit;
 pub use carried::{carried_reads, carried_rows, keeps_the_day};
-pub use carrying::put_carried;
+pub use carrying::{put_carried, put_line, put_long_line, put_wish};
 pub use event::{Events, PortEvent};
 pub use fault::{AuditWord, TextFault};
 pub use laws::{
     all_taken_keep, broken_exactly, call_rows, lessened_fits, none_broken, none_broken_first,
-    none_port_broken, none_port_broken_after, same_timetables, taken_keeps, text_rows, watch_rows,
+    none_port_broken, none_port_broken_after, port_plan, same_timetables, taken_keeps, text_rows,
+    watch_rows,
 };
 pub use reading::{read_events, read_table};

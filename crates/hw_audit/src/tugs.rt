@@ -5,7 +5,8 @@ ghost use Rattle.std.specs.Prelude.{◌≡◌, ℕ, ◌+◌, ◌<◌, ◌≤◌,
 ghost use Rattle.hw_model.specs.Limits.{RuleFits};
 ghost use Rattle.hw_model.specs.Problem.{IsTimetable};
 ghost use Rattle.hw_model.specs.Rules.{busy};
-ghost use Rattle.hw_audit.specs.Keeping.{AreHeld, held_from, last_jobs};
+ghost use Rattle.hw_audit.specs.Keeping.{AreHeld, last_jobs};
+ghost use Rattle.hw_repair.specs.Wishes.{held_from};
 
 use hw_flat::{Flat, Timetable};
 use hw_model::{Job, NoMemory, Rule, ShipId, Slot};

@@ -4,7 +4,7 @@ use Rattle.std.proofs.lemmas.Bool.{and_parts, lt-ltb}
 use Rattle.std.specs.Prelude.{option_and_then}
 use Rattle.std.specs.List.{list_all}
 use Rattle.hw_text.proofs.Spelled.{reads_back}
-use Rattle.hw_flat.specs.TextForms.{put_first}
+use Rattle.hw_text.specs.Parts.{put_first}
 use Rattle.hw_cert.specs.Spelled.{number_word, all_numbers, some_of, some_numbers}
 use Rattle.hw_cert.specs.Laws.{is_small}
 use Rattle.hw_cert.proofs.WordBytes.{small_is}

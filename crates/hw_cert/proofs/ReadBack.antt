@@ -9,9 +9,8 @@ use Rattle.std.specs.List.{list_all, flat_map, join_with_byte}
 use Rattle.hw_lemmas.proofs.Truths.{chosen}
 use Rattle.hw_model.specs.declared.lit.Lit.{Lit}
 use Rattle.hw_model.specs.declared.lit.Lit.TheVariants.{AtOrAfter, Before, First, NotFirst}
-use Rattle.hw_text.specs.Parts.{parts_of}
+use Rattle.hw_text.specs.Parts.{parts_of, put_first}
 use Rattle.hw_text.proofs.Spelled.{is_spelled}
-use Rattle.hw_flat.specs.TextForms.{put_first}
 use Rattle.hw_cert.specs.Texts.{pair_text, lit_text}
 use Rattle.hw_cert.specs.Spelled.{number_word, both_values, all_numbers, some_of, some_numbers, number_pair, lettered, lit_word, Lits, put_lit, lits_of}
 use Rattle.hw_cert.specs.Laws.{lit_numbers, is_small}

@@ -8,11 +8,10 @@ use Rattle.std.proofs.lemmas.List.Splits.{join_with_byte-slice_split}
 use Rattle.std.specs.Prelude.{nat_le, option_map}
 use Rattle.std.specs.List.{list_all, flat_map, join_with_byte}
 use Rattle.hw_text.specs.Numbers.{is_digit}
-use Rattle.hw_text.specs.Parts.{lacks, parts_of}
+use Rattle.hw_text.specs.Parts.{lacks, parts_of, put_first}
 use Rattle.hw_text.proofs.Digits.{own}
 use Rattle.hw_text.proofs.Joins.{one_part, part_before}
 use Rattle.hw_text.proofs.Spelled.{is_spelled, reads_back}
-use Rattle.hw_flat.specs.TextForms.{put_first}
 use Rattle.hw_price_laws.specs.declared.toll.Block.{Block}
 use Rattle.hw_price_laws.specs.declared.tariff.Due.{Due}
 use Rattle.hw_cert.specs.Texts.{block_text, price_text}

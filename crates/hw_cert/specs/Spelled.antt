@@ -3,8 +3,7 @@ use Rattle.std.specs.Prelude.{ℕ, ◌-◌, ◌^◌, ◌==◌, Bool, true, false
 use Rattle.hw_model.specs.declared.lit.Lit.{Lit}
 use Rattle.hw_model.specs.declared.lit.Lit.TheVariants.{AtOrAfter, Before, First, NotFirst}
 use Rattle.hw_text.specs.Numbers.{number_up_to}
-use Rattle.hw_text.specs.Parts.{parts_of, words_of}
-use Rattle.hw_flat.specs.TextForms.{put_first}
+use Rattle.hw_text.specs.Parts.{parts_of, words_of, put_first}
 use Rattle.hw_price_laws.specs.declared.toll.Block.{Block}
 use Rattle.hw_cert_lines.specs.declared.line.Line.{Line}
 use Rattle.hw_cert_lines.specs.declared.line.Line.TheVariants as lines

@@ -14,8 +14,10 @@ use crate::version::Version;
 use hw_cert_lines::{Hints, Line};
 use hw_flat::Timetable;
 use hw_lits::{Clause, ClauseFault};
-use hw_model::{Lit, MOST_CARGO, MOST_HELD, MOST_SHIPS, MOST_TUGS, NoMemory, Shape};
-use hw_price_laws::{Block, Blocks, Due, Dues, MOST_PRICE, MOST_SCALE, Tariff, Toll, Weights};
+use hw_model::{Lit, MOST_CARGO, MOST_HELD, MOST_SHIPS, NoMemory, Shape};
+use hw_price_laws::{
+    Block, Blocks, Due, Dues, MOST_PRICE, MOST_SCALE, Tariff, Toll, Weights, are_light,
+};
 use std::alloc::{AllocError, Global};
 
 /// Why a line can't be read.
@@ -199,16 +201,10 @@ fn narrows_line(shape: Shape, blocks: Vec<Block>) -> Result<Line, LineFault>
     Ok(Line::Toll { toll })
 }
 
-fn each_light(weights: &[u32]) -> bool
-    ensures { result ≡ list_all (λ weight. nat_le weight MOST_TUGS) weights.now }
-{
-    weights.iter().all(|weight| *weight <= MOST_TUGS)
-}
-
 fn are_small(most: u32, weights: &[u32]) -> bool
     ensures { result ≡ weights_small most weights.now }
 {
-    most <= MOST_HELD && each_light(weights)
+    most <= MOST_HELD && are_light(weights)
 }
 
 /// Whether the number is that of a rule, the slot one of the problem, and there are no more weights

@@ -19,7 +19,8 @@ use Rattle.hw_cert_lines.specs.declared.line.Line.TheVariants as lines
 use Rattle.hw_cert_lines.specs.Lines.{clause_of, clauses_of}
 use Rattle.hw_cert_lines.specs.Valid.{LineFits}
 use Rattle.hw_cert_laws.proofs.Proved.{says_all}
-use Rattle.hw_cert_closes.specs.Closing.{ClosedRoom, are_false, closes_room, is_clause_false, is_false}
+use Rattle.hw_cert_closes.specs.Closing.{ClosedRoom, are_false, closes_room, is_clause_false}
+use Rattle.hw_lits.specs.Steps.{is_false}
 
 -- ---- the clause of a line of the problem's shape
 

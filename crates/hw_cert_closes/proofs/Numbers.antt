@@ -13,7 +13,8 @@ use Rattle.hw_cert_lines.proofs.Live.{count_front}
 use Rattle.hw_cert_lines.proofs.Pushed.{at_past, clauses_push, same_at}
 use Rattle.hw_cert_laws.proofs.Numbered.{count_append}
 use Rattle.hw_cert_closes.specs.Closing.{closes_room, is_clause_false}
-use Rattle.hw_cert_closes.specs.Numbers.{FindsLast, IsClosing, IsLastClosing, LastClosing, number_mark, preferred}
+use Rattle.hw_cert_closes.specs.Numbers.{FindsLast, IsClosing, IsLastClosing, LastClosing, preferred}
+use Rattle.hw_cert_laws.specs.Renewing.{is_marked}
 
 -- ---- how many clause lines there are
 
@@ -86,7 +87,7 @@ closing_next room before line number marks found e is h = by found h
     own = here room before line number (clause_of line) refl e is
 
     -- it is the one, where all before have marks if it has one
-    newest : (number_mark marks number ≡ true → (m : ℕ) → IsClosing room before m → number_mark marks m ≡ true) → IsLastClosing room (before ++ line ∷ []) marks number
+    newest : (is_marked marks number ≡ true → (m : ℕ) → IsClosing room before m → is_marked marks m ≡ true) → IsLastClosing room (before ++ line ∷ []) marks number
     newest all = record {
       closing = own.1;
       later = λ m h lt. absurd (omega (arith, lt, within room (before ++ line ∷ []) m h, is));
@@ -94,26 +95,26 @@ closing_next room before line number marks found e is h = by found h
         omega (arith, within room (before ++ line ∷ []) m h, is),
         elim (either room before line m (clause_of line) refl h) [
           | inl was ↦ all k m was
-          | inr new ↦ ap (number_mark marks) (new.0 ∙ sym own.0) ∙ k
+          | inr new ↦ ap (is_marked marks) (new.0 ∙ sym own.0) ∙ k
         ],
       );
     }
 
-    chosen : (n : ℕ) → IsLastClosing room before marks n → (a b : Bool) → number_mark marks number ≡ a → number_mark marks n ≡ b → IsLastClosing room (before ++ line ∷ []) marks (cond (a && not b) n number)
+    chosen : (n : ℕ) → IsLastClosing room before marks n → (a b : Bool) → is_marked marks number ≡ a → is_marked marks n ≡ b → IsLastClosing room (before ++ line ∷ []) marks (cond (a && not b) n number)
     chosen n last false b ea eb = newest (λ k. absurd (false≢true (sym ea ∙ k)))
     chosen n last true true ea eb = newest (λ k m was. (last.marked eb m was).1)
     chosen n last true false ea eb = record {
       closing = kept room before line n last.closing;
       later = λ m h lt. elim (either room before line m (clause_of line) refl h) [
         | inl was ↦ last.later m was lt
-        | inr new ↦ ap (number_mark marks) (new.0 ∙ sym own.0) ∙ ea
+        | inr new ↦ ap (is_marked marks) (new.0 ∙ sym own.0) ∙ ea
       ];
       marked = λ k. absurd (false≢true (sym eb ∙ k));
     }
 
     by : (found : Option ℕ) → LastClosing room before marks found → IsLastClosing room (before ++ line ∷ []) marks (preferred marks found number)
     by None none = newest (λ k m was. absurd (none m was))
-    by (Some n) last = chosen n last (number_mark marks number) (number_mark marks n) refl refl
+    by (Some n) last = chosen n last (is_marked marks number) (is_marked marks n) refl refl
 
 -- ---- one line of a list after another
 

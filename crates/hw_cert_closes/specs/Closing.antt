@@ -2,8 +2,6 @@
 use Rattle.std.specs.Prelude.{◌≡◌, ℕ, Bool, true, false, List, Option, Some, None, All, IsTrue}
 use Rattle.std.specs.List.{list_all, list_any}
 use Rattle.hw_model.specs.declared.lit.Lit.{Lit}
-use Rattle.hw_model.specs.declared.lit.LitTruth.{LitTruth}
-use Rattle.hw_model.specs.declared.lit.LitTruth.TheVariants.{True, False, Free}
 use Rattle.hw_model.specs.Limits.{IsFlat}
 use Rattle.hw_model.specs.Problem.{Problem}
 use Rattle.hw_model.specs.Rooms.{RoomModel, RoomFits, Inside}
@@ -12,12 +10,7 @@ use Rattle.hw_model.specs.Timetables.{Permits, beats, cargo}
 use Rattle.hw_cert_lines.specs.declared.line.Line.{Line}
 use Rattle.hw_cert_lines.specs.Lines.{best_of, clause_of}
 use Rattle.hw_cert_lines.specs.Valid.{LineFits, Valid}
-
--- the room makes the literal false
-abbrev pub is_false : LitTruth → Bool
-is_false True = false
-is_false False = true
-is_false Free = false
+use Rattle.hw_lits.specs.Steps.{is_false}
 
 -- the room makes each literal false
 abbrev pub are_false : RoomModel → List Lit → Bool

@@ -6,7 +6,8 @@ ghost use Rattle.hw_cert_lines.specs.Lines.{clause_count};
 ghost use Rattle.hw_cert_lines.specs.Valid.{LineFits};
 ghost use Rattle.hw_model.specs.Lits.{IsLitOf};
 ghost use Rattle.hw_model.specs.Narrowing.{truth};
-ghost use Rattle.hw_cert_closes.specs.Closing.{ClosedRoom, are_false, closes_room, is_clause_false, is_false};
+ghost use Rattle.hw_cert_closes.specs.Closing.{ClosedRoom, are_false, closes_room, is_clause_false};
+ghost use Rattle.hw_lits.specs.Steps.{is_false};
 ghost use Rattle.hw_cert_closes.specs.Numbers.{FindsLast, LastClosing, preferred};
 
 use crate::deletions::is_deleted;

@@ -3,7 +3,8 @@
 ghost use Rattle.std.specs.Prelude.{◌≡◌, ◌==◌, IfOk, OnOk};
 ghost use Rattle.std.specs.List.{list_any};
 ghost use Rattle.hw_cert_lines.specs.Lines.{deletes};
-ghost use Rattle.hw_cert_closes.specs.Numbers.{MarksDeleted, MarksMore, number_mark};
+ghost use Rattle.hw_cert_closes.specs.Numbers.{MarksDeleted, MarksMore};
+ghost use Rattle.hw_cert_laws.specs.Renewing.{is_marked};
 
 use hw_cert_lines::Line;
 use hw_flat::NoMemory;
@@ -54,7 +55,7 @@ fn mark(marks: &mut Vec<bool>, id: u32) -> Result<(), NoMemory>
 
 /// Whether the number has such a mark.
 pub(crate) fn is_deleted(marks: &[bool], number: u32) -> bool
-    ensures { result ≡ number_mark marks.now number }
+    ensures { result ≡ is_marked marks.now number }
 {
     match marks.get(number as usize) {
         Some(mark) => *mark,

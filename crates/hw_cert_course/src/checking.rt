@@ -30,8 +30,8 @@ pub(crate) fn check_all<'f>(
     Ok(checker)
 }
 
-/// Takes a line that is valid after those that were taken.
-fn check_one<'f>(checker: Checker<'f>, line: &Line) -> Result<Checker<'f>, NoMemory>
+/// Takes a line that is valid after those that were taken. An error says that memory ran out.
+pub fn check_one<'f>(checker: Checker<'f>, line: &Line) -> Result<Checker<'f>, NoMemory>
     requires fits { LineFits checker.problem line.now }
     requires valid { kept_refusal checker.problem checker.kept line.now ≡ None }
     ensures problem { IfOk result (λ c. c.problem ≡ checker.entry.problem) }

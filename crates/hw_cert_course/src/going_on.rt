@@ -145,15 +145,8 @@ pub fn last_table(alloc: Global, lines: &[Line]) -> Result<Option<Timetable>, No
     let mut last = None;
     for line in lines {
         if let Line::Table(table) = line {
-            last = Some(copy_table(alloc, table)?);
+            last = Some(table.copy(alloc)?);
         }
     }
     Ok(last)
-}
-
-pub fn copy_table(alloc: Global, table: &Timetable) -> Result<Timetable, NoMemory>
-    ensures value { IfOk result (λ copied. copied ≡ table.now) }
-{
-    let _few = table.len();
-    Timetable::from_slots(alloc, table.as_slice())
 }

@@ -11,7 +11,8 @@ mod handing;
 mod raising;
 mod stop;
 
-pub use going_on::{Course, begun, copy_table, last_table};
+pub use checking::check_one;
+pub use going_on::{Course, begun, last_table};
 pub use handing::hand_all;
 pub use raising::{IN_PLACE, Raise, raised};
 pub use stop::CourseStop;

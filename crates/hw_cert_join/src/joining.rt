@@ -17,7 +17,7 @@ use crate::joined::Joined;
 use crate::junction::{Junction, none_joined};
 use crate::parts::{Closing, closing_of};
 use hw_cert_closes::count_clauses;
-use hw_cert_course::{Course, CourseStop, IN_PLACE, begun, copy_table, hand_all};
+use hw_cert_course::{Course, CourseStop, IN_PLACE, begun, hand_all};
 use hw_cert_lines::{Hints, Line};
 use hw_flat::{Flat, Timetable};
 use hw_lits::Clause;
@@ -114,7 +114,7 @@ fn take_best<'f>(
 {
     match best_of_all(course.flat, certs) {
         Some(table) => {
-            let line = Line::Table(copy_table(alloc, table)?);
+            let line = Line::Table(table.copy(alloc)?);
             course.offer(line)
         }
         None => Ok(course),

@@ -95,15 +95,15 @@ fn number_of(count: usize) -> u32 {
     u32::try_from(count).unwrap_or(u32::MAX)
 }
 
-/// The joined number of a certificate's toll, by the joined numbers of its tolls in order. One that no
-/// line has stands for a toll that the certificate doesn't declare.
-fn joined_number(numbers: &[u32], toll: u32) -> u32 {
+/// The joined number of a certificate's toll, by the joined numbers of its tolls in order; none where the
+/// certificate doesn't declare the toll.
+fn joined_number(numbers: &[u32], toll: u32) -> Option<u32> {
     if toll == 0 {
-        return u32::MAX;
+        return None;
     }
     match numbers.get((toll - 1) as usize) {
-        Some(number) => *number,
-        None => u32::MAX,
+        Some(number) => Some(*number),
+        None => None,
     }
 }
 
@@ -118,8 +118,9 @@ pub(crate) fn joined_tariff(
 {
     let mut items = Vec::with_capacity(alloc, tariff.dues.items.len())?;
     for one in &tariff.dues.items {
+        // The checker refuses a tariff on a toll that isn't declared: no toll has the greatest number.
         items.push(Due {
-            toll: joined_number(numbers, one.toll),
+            toll: joined_number(numbers, one.toll).unwrap_or(u32::MAX),
             price: one.price,
         })?;
     }

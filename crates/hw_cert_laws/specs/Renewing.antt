@@ -1,5 +1,5 @@
 -- A certificate in which each clause is deleted right after the last line that names it.
-use Rattle.std.specs.Prelude.{◌≡◌, ℕ, ◌+◌, ◌^◌, ◌<◌, ◌≤◌, max, Bool, ◌==◌, ◌&&◌, not, List, [], ◌∷◌, ◌++◌, Option, Some, None, All, filter, fold}
+use Rattle.std.specs.Prelude.{◌≡◌, ℕ, ◌+◌, ◌^◌, ◌<◌, ◌≤◌, max, Bool, ◌==◌, ◌&&◌, not, List, [], ◌∷◌, ◌++◌, Option, Some, None, All, filter, fold, false, slice_index_or}
 use Rattle.std.specs.List.{list_any, range_with_len}
 use Rattle.hw_model.specs.declared.lit.Lit.{Lit}
 use Rattle.hw_model.specs.Problem.{Problem}
@@ -29,6 +29,10 @@ has_hint id line = list_any (λ hint. hint == id) (hints_of line)
 -- one of these lines does
 abbrev pub is_hint_of : List Line → ℕ → Bool
 is_hint_of later id = list_any (has_hint id) later
+
+-- whether the number has a mark; none past the last one
+abbrev pub is_marked : List Bool → ℕ → Bool
+is_marked marks id = slice_index_or marks id false
 
 -- the hints of a line that no later line has, ascending and each once
 abbrev pub last_named : Line → List Line → List ℕ

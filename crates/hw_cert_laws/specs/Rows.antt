@@ -6,7 +6,8 @@ use Rattle.hw_model_laws.specs.Rows.{two_apart, three_ships}
 use Rattle.hw_cert_lines.specs.declared.line.Line.{Line}
 use Rattle.hw_cert_lines.specs.declared.line.Line.TheVariants as lines
 use Rattle.hw_cert_lines.specs.Lemmas.{LeanAfter, IsNew}
-use Rattle.hw_cert_lines.specs.PriceRows.{late_narrows, late_costs_line, last_priced}
+use Rattle.hw_cert_lines.specs.PriceRows.{late_narrows, late_costs_line}
+use Rattle.hw_cert_lines.specs.Lines.{last_priced}
 use Rattle.hw_cert_lines.specs.Rows.{best_table, second_late, first_late, apart_explained, whole_lines}
 use Rattle.hw_cert_laws.specs.Renewing.{renewed}
 

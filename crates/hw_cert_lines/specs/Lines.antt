@@ -98,6 +98,10 @@ is_end (Some (lit ∷ more)) = false
 abbrev pub is_closed : List Line → Bool
 is_closed before = list_any (λ line. is_end (clause_of line)) before
 
+-- the clause of prices without literals, a last line
+abbrev pub last_priced : Line
+last_priced = lines.Priced []
+
 -- the last line is one
 abbrev pub ends : List Line → Bool
 ends before = fold (λ last line. is_end (clause_of line)) false before

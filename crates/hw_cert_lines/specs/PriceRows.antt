@@ -9,10 +9,8 @@ use Rattle.hw_cert_lines.specs.declared.check.CheckWord.TheVariants as words
 use Rattle.hw_cert_lines.specs.declared.line.Line.{Line}
 use Rattle.hw_cert_lines.specs.declared.line.Line.TheVariants as lines
 use Rattle.hw_cert_lines.specs.Refusals.{refusal, refused, refused_at}
-
--- the table of slots 2 and 0, with the most cargo of all: 40
-abbrev pub forty : Line
-forty = lines.Table (2 ∷ 0 ∷ [])
+use Rattle.hw_cert_lines.specs.Rows.{best_table}
+use Rattle.hw_cert_lines.specs.Lines.{last_priced}
 
 -- of the second and the third slot one ship at most has one
 abbrev pub late_narrows : Line
@@ -38,10 +36,6 @@ tolls_alone_line = lines.Tariff tolls_alone
 abbrev pub small_costs : Line
 small_costs = lines.Tariff (record { scale = 1; dues = record { toll = 1; price = 1 } ∷ [] })
 
--- the priced line without literals
-abbrev pub last_priced : Line
-last_priced = lines.Priced []
-
 -- the problem with a last slot that means staying
 abbrev pub with_stay : Problem
 with_stay = record tolled_ships_apart { stay = true }
@@ -64,10 +58,10 @@ pub record PriceLineRows : Type 0 where
   pub toll_ten_thousand_and_one : refusal tolled_ships_apart (repeat 10_000 (late_narrows ∷ [])) late_narrows ≡ refused words.Many
   pub a_toll_declared : refusal tolled_ships_apart (late_narrows ∷ []) late_costs_line ≡ None
   pub a_toll_not_declared_yet : refusal tolled_ships_apart (late_narrows ∷ []) (lines.Tariff (record { scale = 3; dues = record { toll = 1; price = 30 } ∷ record { toll = 2; price = 5 } ∷ [] })) ≡ refused_at words.Due 2
-  pub forty_is_the_most : refusal tolled_ships_apart (forty ∷ late_narrows ∷ late_costs_line ∷ []) last_priced ≡ None
-  pub nothing_follows : refusal tolled_ships_apart (forty ∷ late_narrows ∷ late_costs_line ∷ last_priced ∷ []) one_job_line ≡ refused words.Ended
-  pub no_prices_in_force : refusal tolled_ships_apart (forty ∷ late_narrows ∷ []) last_priced ≡ refused words.Due
-  pub prices_out_of_force : refusal tolled_ships_apart (forty ∷ late_narrows ∷ late_costs_line ∷ tariff_line_without_prices ∷ []) last_priced ≡ refused words.Refute
+  pub forty_is_the_most : refusal tolled_ships_apart (best_table ∷ late_narrows ∷ late_costs_line ∷ []) last_priced ≡ None
+  pub nothing_follows : refusal tolled_ships_apart (best_table ∷ late_narrows ∷ late_costs_line ∷ last_priced ∷ []) one_job_line ≡ refused words.Ended
+  pub no_prices_in_force : refusal tolled_ships_apart (best_table ∷ late_narrows ∷ []) last_priced ≡ refused words.Due
+  pub prices_out_of_force : refusal tolled_ships_apart (best_table ∷ late_narrows ∷ late_costs_line ∷ tariff_line_without_prices ∷ []) last_priced ≡ refused words.Refute
   pub without_a_best : refusal tolled_ships_apart (late_narrows ∷ late_costs_line ∷ []) last_priced ≡ refused words.Refute
   pub both_late : refusal tolled_ships_apart (late_narrows ∷ tolls_alone_line ∷ []) (lines.Priced (Before 0 1 ∷ Before 1 1 ∷ [])) ≡ None
   pub one_late : refusal tolled_ships_apart (late_narrows ∷ tolls_alone_line ∷ []) (lines.Priced (Before 0 1 ∷ [])) ≡ refused words.Refute

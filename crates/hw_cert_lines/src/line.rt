@@ -110,7 +110,7 @@ impl Line {
         ensures value { IfOk result (λ line. line ≡ self.now) }
     {
         Ok(match self {
-            Line::Table(table) => Line::Table(copy_table(alloc, table)?),
+            Line::Table(table) => Line::Table(table.copy(alloc)?),
             Line::Explain {
                 restriction,
                 clause,
@@ -146,11 +146,4 @@ impl Line {
             Line::Bound { bound } => Line::Bound { bound: *bound },
         })
     }
-}
-
-fn copy_table(alloc: Global, table: &Timetable) -> Result<Timetable, NoMemory>
-    ensures value { IfOk result (λ copied. copied ≡ table.now) }
-{
-    let _few = table.len();
-    Timetable::from_slots(alloc, table.as_slice())
 }

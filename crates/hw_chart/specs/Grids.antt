@@ -1,7 +1,7 @@
 -- The grid over the plot: marks on its axis, and lines down the picture.
 use Rattle.std.specs.Prelude.{ℕ, ◌+◌, ◌*◌, ◌/◌, ◌%◌, zero, suc, Bool, ◌&&◌, nat_eq, nat_lt, nat_le, if◌then◌else◌, List, [], ◌∷◌, ◌++◌, codes, decimal, find, unwrap_or}
 use Rattle.std.specs.Int.{div_ceil}
-use Rattle.hw_chart_svg.specs.Joined.{joined}
+use Rattle.std.specs.List.{concat}
 use Rattle.hw_chart_svg.specs.Lettering.{line}
 use Rattle.hw_chart_svg.specs.Numbers.{clock}
 use Rattle.hw_chart_svg.specs.Shapes.{shape}
@@ -28,7 +28,7 @@ abbrev pub axis_of : Scale → ℕ → ℕ → Axis
 axis_of scale span bottom = record { scale = scale; total = total_of scale span; step = step_of scale (total_of scale span); bottom = bottom }
 
 abbrev pub line_path : Axis → ℕ → List ℕ
-line_path a at = joined (codes "M" ∷ decimal (plot_place at a.total) ∷ codes " 120V" ∷ decimal (a.bottom + 4) ∷ [])
+line_path a at = concat (codes "M" ∷ decimal (plot_place at a.total) ∷ codes " 120V" ∷ decimal (a.bottom + 4) ∷ [])
 
 -- the lines at this many marks from this one on
 abbrev pub line_paths : Axis → ℕ → ℕ → List ℕ
@@ -65,11 +65,11 @@ caption_text (Minutes minutes) = codes "hours from slot 0"
 caption_text Slots = codes "slot"
 
 abbrev pub axis_text : Axis → List ℕ
-axis_text a = joined (line (codes "m") 16 116 (caption_text a.scale) ∷ axis_lines a ∷ marks a 0 (div_ceil a.total a.step) ∷ [])
+axis_text a = concat (line (codes "m") 16 116 (caption_text a.scale) ∷ axis_lines a ∷ marks a 0 (div_ceil a.total a.step) ∷ [])
 
 abbrev pub grid : Scale → ℕ → ℕ → List ℕ
 grid scale span bottom = axis_text (axis_of scale span bottom)
 
 -- a line at the end of the slots in which ships sail, where the picture goes on beyond it
 abbrev pub span_end : ℕ → ℕ → ℕ → List ℕ
-span_end slots span bottom = if nat_lt slots span then shape (codes "hz") (joined (codes "M" ∷ decimal (plot_place slots span) ∷ codes " 120V" ∷ decimal (bottom + 4) ∷ [])) else []
+span_end slots span bottom = if nat_lt slots span then shape (codes "hz") (concat (codes "M" ∷ decimal (plot_place slots span) ∷ codes " 120V" ∷ decimal (bottom + 4) ∷ [])) else []

@@ -1,8 +1,8 @@
 -- What a certificate shows, as the title, the meaning and the badge of a picture.
 use Rattle.std.specs.Prelude.{ℕ, List, [], ◌∷◌, ◌++◌, Option, Some, None, codes, decimal}
+use Rattle.std.specs.List.{concat}
 use Rattle.hw_cert_lines.specs.declared.check.Verdict.{Verdict}
 use Rattle.hw_cert_lines.specs.declared.check.Verdict.TheVariants.{Optimal, Infeasible, Unfinished}
-use Rattle.hw_chart_svg.specs.Joined.{joined}
 use Rattle.hw_chart_svg.specs.Numbers.{tonnes_label}
 use Rattle.hw_chart_svg.specs.Shapes.{shape}
 use Rattle.hw_chart.specs.declared.outcome.CargoUnit.{CargoUnit}
@@ -29,10 +29,10 @@ most_parts unit (Some bound) = codes ", at most " ∷ amount_parts unit bound
 
 -- the title by a bound and a verdict. A bound is spoken of only where the verdict is unfinished
 abbrev pub title_by : CargoUnit → Option ℕ → Verdict → List ℕ
-title_by unit bound (Optimal cargo) = joined (codes "Proved best: " ∷ amount_parts unit cargo)
+title_by unit bound (Optimal cargo) = concat (codes "Proved best: " ∷ amount_parts unit cargo)
 title_by unit bound Infeasible = codes "Infeasible"
-title_by unit bound (Unfinished (Some cargo)) = joined (codes "Not proved best: " ∷ cargo_in_unit unit cargo ∷ unit_text unit ∷ most_parts unit bound)
-title_by unit bound (Unfinished None) = joined (codes "No plan" ∷ most_parts unit bound)
+title_by unit bound (Unfinished (Some cargo)) = concat (codes "Not proved best: " ∷ cargo_in_unit unit cargo ∷ unit_text unit ∷ most_parts unit bound)
+title_by unit bound (Unfinished None) = concat (codes "No plan" ∷ most_parts unit bound)
 
 abbrev pub title_text : CargoUnit → Outcome → List ℕ
 title_text unit outcome = title_by unit outcome.bound outcome.verdict
@@ -42,9 +42,9 @@ abbrev pub meaning_by : CargoUnit → Option ℕ → Verdict → List ℕ
 meaning_by unit bound (Optimal cargo) = codes "the certificate proves that no permitted timetable carries more"
 meaning_by unit bound Infeasible = codes "the certificate proves that no timetable is permitted"
 meaning_by unit None (Unfinished (Some cargo)) = codes "this timetable is permitted; of others nothing is proved"
-meaning_by unit (Some bound) (Unfinished (Some cargo)) = joined (codes "this timetable is permitted; the certificate proves that none carries more than " ∷ amount_parts unit bound)
+meaning_by unit (Some bound) (Unfinished (Some cargo)) = concat (codes "this timetable is permitted; the certificate proves that none carries more than " ∷ amount_parts unit bound)
 meaning_by unit None (Unfinished None) = codes "the certificate has no timetable and proves nothing"
-meaning_by unit (Some bound) (Unfinished None) = joined (codes "the certificate has no timetable; it proves that none carries more than " ∷ amount_parts unit bound)
+meaning_by unit (Some bound) (Unfinished None) = concat (codes "the certificate has no timetable; it proves that none carries more than " ∷ amount_parts unit bound)
 
 abbrev pub meaning_text : CargoUnit → Outcome → List ℕ
 meaning_text unit outcome = meaning_by unit outcome.bound outcome.verdict

@@ -1,8 +1,8 @@
 //! What a certificate shows, as the title of a picture.
 
 ghost use Rattle.std.specs.Prelude.{◌≡◌, ◌∷◌};
+ghost use Rattle.std.specs.List.{concat};
 ghost use Rattle.hw_desk.specs.Writers.{Puts};
-ghost use Rattle.hw_chart_svg.specs.Joined.{joined};
 ghost use Rattle.hw_chart_svg.specs.Pieces.{picture_piece_text, picture_pieces_text};
 ghost use Rattle.hw_chart.specs.Outcomes.{amount_parts, badge, cargo_in_unit, disc_class, meaning_text, most_parts, sign_path, title_text, unit_text};
 
@@ -47,7 +47,7 @@ fn unit_piece(unit: CargoUnit) -> Piece<'static>
 
 /// A bound after what was said, in three pieces that are empty where there is none.
 fn at_most(unit: CargoUnit, bound: Option<u64>) -> [Piece<'static>; 3]
-    ensures { picture_pieces_text result ≡ joined (most_parts unit bound) }
+    ensures { picture_pieces_text result ≡ concat (most_parts unit bound) }
 {
     let nothing = Piece::Word(b"");
     match bound {
@@ -91,7 +91,7 @@ pub fn title(unit: CargoUnit, outcome: Outcome) -> [Piece<'static>; 6]
 
 /// What an unfinished certificate with this bound means, by the words before the bound.
 fn bounded(unit: CargoUnit, words: &'static [u8], bound: u64) -> [Piece<'static>; 3]
-    ensures { picture_pieces_text result ≡ joined (words.now ∷ amount_parts unit bound) }
+    ensures { picture_pieces_text result ≡ concat (words.now ∷ amount_parts unit bound) }
 {
     let bound = cargo_piece(unit, bound);
     [Piece::Word(words), bound, unit_piece(unit)]

@@ -1,7 +1,7 @@
 -- The grid over a plot whose first slot begins at a date and time: marks where a day begins and at times of the day.
 use Rattle.std.specs.Prelude.{ℕ, ◌+◌, ◌-◌, ◌*◌, ◌/◌, zero, suc, Bool, nat_eq, if◌then◌else◌, List, [], ◌∷◌, ◌++◌, codes, decimal}
 use Rattle.std.specs.Int.{div_ceil}
-use Rattle.hw_chart_svg.specs.Joined.{joined}
+use Rattle.std.specs.List.{concat}
 use Rattle.hw_chart_svg.specs.Lettering.{line}
 use Rattle.hw_chart_svg.specs.Names.{escaped}
 use Rattle.hw_chart_svg.specs.Numbers.{clock}
@@ -38,7 +38,7 @@ abbrev pub day_begins : Moment → Bool
 day_begins m = nat_eq (minute_of_day m) 0
 
 abbrev pub day_words : Date → List ℕ
-day_words d = joined (escaped (weekday_name d) ∷ codes " " ∷ decimal d.day ∷ codes " " ∷ escaped (month_name d) ∷ [])
+day_words d = concat (escaped (weekday_name d) ∷ codes " " ∷ decimal d.day ∷ codes " " ∷ escaped (month_name d) ∷ [])
 
 -- the day where it begins, otherwise the time of the day
 abbrev pub moment_words : Moment → List ℕ
@@ -74,7 +74,7 @@ abbrev pub caption : List ℕ → List ℕ
 caption start = line (codes "m") 16 116 (escaped start)
 
 abbrev pub dated_axis_text : List ℕ → Axis → List ℕ
-dated_axis_text start a = joined (caption start ∷ shape (codes "ln") (all_lines start a) ∷ all_marks start a ∷ [])
+dated_axis_text start a = concat (caption start ∷ shape (codes "ln") (all_lines start a) ∷ all_marks start a ∷ [])
 
 -- the grid over this many slots of some minutes, the first of which begins at a start
 abbrev pub dated_grid : List ℕ → ℕ → ℕ → ℕ → List ℕ

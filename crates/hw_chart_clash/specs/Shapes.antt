@@ -1,7 +1,7 @@
 -- What is drawn of kept restrictions, over a picture without a timetable.
 use Rattle.std.specs.Prelude.{ℕ, ◌+◌, ◌*◌, ◌%◌, max, nat_lt, is_some, if◌then◌else◌, List, [], ◌∷◌, ◌++◌, None, codes, decimal, sum_by, zip}
+use Rattle.std.specs.List.{concat}
 use Rattle.hw_chart_svg.specs.Figures.{steps}
-use Rattle.hw_chart_svg.specs.Joined.{joined}
 use Rattle.hw_chart_svg.specs.Names.{escaped}
 use Rattle.hw_chart_svg.specs.Shapes.{block, shape}
 use Rattle.hw_chart_svg.specs.Sheets.{group_end, item_begin, svg_end, title_end, window_begin}
@@ -36,7 +36,7 @@ denied_steps p h ship = steps (codes "cw") (denied_level p h ship) 0 (horizon_of
 
 -- below the ship's drafts
 abbrev pub denied_window : Parts → TideParts → ℕ → ℕ → List ℕ
-denied_window p h ship y = joined (window_begin (plot (y + 26) 5 (port_picture_span p None) 1) ∷ denied_steps p h ship ∷ svg_end ∷ [])
+denied_window p h ship y = concat (window_begin (plot (y + 26) 5 (port_picture_span p None) 1) ∷ denied_steps p h ship ∷ svg_end ∷ [])
 
 abbrev pub denied_mark : Parts → TideParts → ℕ → List ℕ
 denied_mark p h ship = denied_sign (clash_row_y p ship) ++ denied_window p h ship (clash_row_y p ship)
@@ -49,7 +49,7 @@ bracket_x place = 983 + 9 * (place % 32)
 
 -- a bracket from one row to another
 unfoldable pub bracket : ℕ → ℕ → ℕ → List ℕ
-bracket x from to = joined (codes "M" ∷ decimal x ∷ codes " " ∷ decimal (from + 13) ∷ codes "h5V" ∷ decimal (to + 13) ∷ codes "h-5" ∷ [])
+bracket x from to = concat (codes "M" ∷ decimal x ∷ codes " " ∷ decimal (from + 13) ∷ codes "h5V" ∷ decimal (to + 13) ∷ codes "h-5" ∷ [])
 
 abbrev pub joined_mark : Parts → ℕ → ℕ → ℕ → List ℕ
 joined_mark p place first second = shape (codes "cp") (bracket (bracket_x place) (clash_row_y p first) (clash_row_y p second))
@@ -67,7 +67,7 @@ abbrev pub lacking_steps : Parts → List ℕ → List ℕ
 lacking_steps p table = steps (codes "cl") (lacking_level p table) 0 (horizon_of p) (fleet_tall p)
 
 abbrev pub lacking_mark : Parts → List ℕ → List ℕ
-lacking_mark p table = joined (window_begin (plot (places p).tugs 56 (port_picture_span p None) (fleet_tall p)) ∷ lacking_steps p table ∷ svg_end ∷ [])
+lacking_mark p table = concat (window_begin (plot (places p).tugs 56 (port_picture_span p None) (fleet_tall p)) ∷ lacking_steps p table ∷ svg_end ∷ [])
 
 -- ---- each of them
 
@@ -79,7 +79,7 @@ shape_text p h place Lacking table = lacking_mark p table
 
 -- an item of a list, whose title is the restriction's line
 abbrev pub kept_mark_text : Parts → TideParts → ℕ → Mark → List ℕ → List ℕ
-kept_mark_text p h place mark table = joined (item_begin ∷ escaped mark.title ∷ title_end ∷ shape_text p h place mark.shape table ∷ group_end ∷ [])
+kept_mark_text p h place mark table = concat (item_begin ∷ escaped mark.title ∷ title_end ∷ shape_text p h place mark.shape table ∷ group_end ∷ [])
 
 -- from this place on
 abbrev pub kept_marks_from : Parts → TideParts → ℕ → List Mark → List (List ℕ) → List ℕ

@@ -10,17 +10,9 @@ use hw_chart::plot;
 use hw_chart_port::{held_by_all, places_of, slots_shown};
 use hw_chart_svg::{Levels, put_steps, put_svg_end, put_window_begin};
 use hw_desk::Writer;
+use hw_draft::natural;
 use hw_model::{MOST_SLOTS, Slot};
 use hw_port::Port;
-
-/// A number of a port that is never negative.
-fn natural(number: i64) -> u32
-    requires least { pos 0 ≤ℤ number }
-    requires most { number ≤ℤ pos 100_000 }
-    ensures { result ≡ whole number }
-{
-    number.unsigned_abs() as u32
-}
 
 /// The number of slots in which ships sail.
 pub fn horizon(port: &Port) -> u32

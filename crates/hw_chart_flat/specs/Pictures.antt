@@ -1,9 +1,9 @@
 -- The picture of a flat problem, with a timetable or without one.
 use Rattle.std.specs.Prelude.{ℕ, ◌+◌, ◌*◌, List, [], ◌∷◌, ◌++◌, codes, decimal, if◌then◌else◌, length, Option, Some, None}
+use Rattle.std.specs.List.{concat}
 use Rattle.hw_model.specs.declared.rule.Rule.{Rule}
 use Rattle.hw_model.specs.Problem.{Problem, horizon}
 use Rattle.hw_model.specs.Rules.{busy}
-use Rattle.hw_chart_svg.specs.Joined.{joined}
 use Rattle.hw_chart_svg.specs.Lettering.{line}
 use Rattle.hw_chart_svg.specs.Sheets.{list_of, svg_end}
 use Rattle.hw_chart.specs.declared.grid.Scale.TheVariants.{Slots}
@@ -28,7 +28,7 @@ abbrev pub flat_picture_bottom : Problem → ℕ
 flat_picture_bottom f = panels_y f + 66 * length (fleets f)
 
 unfoldable pub flat_picture_sizes : Problem → List ℕ
-flat_picture_sizes f = joined (codes "ships " ∷ decimal f.ships ∷ codes ", slots " ∷ decimal (horizon f) ∷ codes ", rules " ∷ decimal (length f.rules) ∷ [])
+flat_picture_sizes f = concat (codes "ships " ∷ decimal f.ships ∷ codes ", slots " ∷ decimal (horizon f) ∷ codes ", rules " ∷ decimal (length f.rules) ∷ [])
 
 unfoldable pub flat_head : Problem → Option (List ℕ) → Outcome → List ℕ
 flat_head f table outcome = heading Plain outcome (flat_picture_bottom f + 28) (flat_picture_sizes f) ++ flat_legend f table []
@@ -63,13 +63,13 @@ planned_panels f table span y [] = []
 planned_panels f table span y (rule ∷ rules) = planned_fleet f table span y rule ++ planned_panels f table span (y + 66) rules
 
 unfoldable pub flat_foot : Problem → ℕ → List ℕ
-flat_foot f span = joined (grid Slots span (flat_picture_bottom f) ∷ span_end (horizon f) span (flat_picture_bottom f) ∷ svg_end ∷ [])
+flat_foot f span = concat (grid Slots span (flat_picture_bottom f) ∷ span_end (horizon f) span (flat_picture_bottom f) ∷ svg_end ∷ [])
 
 unfoldable pub unplanned_body : Problem → List ℕ
-unplanned_body f = joined (list_of (unplanned_rows f 0 f.ships) ∷ unplanned_panels f (horizon f) (panels_y f) (fleets f) ∷ [])
+unplanned_body f = concat (list_of (unplanned_rows f 0 f.ships) ∷ unplanned_panels f (horizon f) (panels_y f) (fleets f) ∷ [])
 
 unfoldable pub planned_body : Problem → List ℕ → List ℕ
-planned_body f table = joined (flat_columns ∷ list_of (planned_rows f table 0 f.ships) ∷ planned_panels f table (picture_span f (Some table)) (panels_y f) (fleets f) ∷ [])
+planned_body f table = concat (flat_columns ∷ list_of (planned_rows f table 0 f.ships) ∷ planned_panels f table (picture_span f (Some table)) (panels_y f) (fleets f) ∷ [])
 
 unfoldable pub body : Problem → Option (List ℕ) → List ℕ
 body f None = unplanned_body f
@@ -77,4 +77,4 @@ body f (Some table) = planned_body f table
 
 -- the whole text: what a certificate shows, and the timetable, if there is one
 unfoldable pub flat_picture : Problem → Option (List ℕ) → Outcome → List ℕ
-flat_picture f table outcome = joined (flat_head f table outcome ∷ body f table ∷ flat_foot f (picture_span f table) ∷ [])
+flat_picture f table outcome = concat (flat_head f table outcome ∷ body f table ∷ flat_foot f (picture_span f table) ∷ [])

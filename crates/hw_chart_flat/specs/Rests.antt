@@ -1,7 +1,7 @@
 -- What a picture has between its head and its end.
 use Rattle.std.specs.Prelude.{ℕ, List, [], ◌∷◌, ◌++◌, Option}
+use Rattle.std.specs.List.{concat}
 use Rattle.hw_model.specs.Problem.{Problem, horizon}
-use Rattle.hw_chart_svg.specs.Joined.{joined}
 use Rattle.hw_chart.specs.declared.grid.Scale.TheVariants.{Slots}
 use Rattle.hw_chart.specs.Grids.{grid, span_end}
 use Rattle.hw_chart.specs.Legends.{LegendEntry}
@@ -15,4 +15,4 @@ lines_over f span = grid Slots span (flat_picture_bottom f) ++ span_end (horizon
 
 -- the legend with these entries after its own, rows, panels and grid
 unfoldable pub flat_rest : Problem → Option (List ℕ) → List LegendEntry → List ℕ
-flat_rest f table more = joined (flat_legend f table more ∷ body f table ∷ lines_over f (picture_span f table) ∷ [])
+flat_rest f table more = concat (flat_legend f table more ∷ body f table ∷ lines_over f (picture_span f table) ∷ [])

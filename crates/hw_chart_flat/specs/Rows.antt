@@ -1,10 +1,11 @@
 -- The rows of a picture: a ship each.
 use Rattle.std.specs.Prelude.{ℕ, ◌+◌, ◌*◌, zero, suc, nat_eq, nat_lt, if◌then◌else◌, List, [], ◌∷◌, ◌++◌, codes, decimal, slice_index, Some}
+use Rattle.std.specs.List.{concat}
 use Rattle.hw_model.specs.declared.rule.Job.{Job}
 use Rattle.hw_model.specs.declared.rule.Rule.{Rule}
 use Rattle.hw_model.specs.declared.rule.Rule.TheVariants.{Pair, After, Tugs}
 use Rattle.hw_model.specs.Problem.{Problem, horizon, value_at}
-use Rattle.hw_chart_svg.specs.Joined.{joined}
+use Rattle.hw_flat.specs.Carried.{worth}
 use Rattle.hw_chart_svg.specs.Lettering.{line}
 use Rattle.hw_chart_svg.specs.Sheets.{group_end, item_begin, svg_end, title_end}
 use Rattle.hw_chart.specs.declared.course.Course.{Course}
@@ -17,7 +18,7 @@ use Rattle.hw_chart_flat.specs.declared.row.Row.{Row}
 use Rattle.hw_chart_flat.specs.Fleets.{fleets, picture_span}
 use Rattle.hw_rules.specs.Fleets.{rule_jobs}
 use Rattle.hw_chart_flat.specs.Moves.{flat_open_level}
-use Rattle.hw_chart_flat.specs.Values.{cargo_in_slot, most_carried, most_level, sails_nowhere, tall_of, value_level}
+use Rattle.hw_chart_flat.specs.Values.{most_carried, most_level, sails_nowhere, tall_of, value_level}
 
 -- where a row stands
 abbrev pub row_top : Row → ℕ
@@ -27,14 +28,14 @@ row_top row = 146 + 42 * row.rank
 unfoldable pub course_text : Problem → ℕ → Course → List ℕ
 course_text f ship Unplanned = []
 course_text f ship Stays = codes ", stays"
-course_text f ship (Sails slot) = joined (codes ", sails in slot " ∷ decimal slot ∷ codes ", carries " ∷ decimal (cargo_in_slot f ship slot) ∷ [])
+course_text f ship (Sails slot) = concat (codes ", sails in slot " ∷ decimal slot ∷ codes ", carries " ∷ decimal (worth f ship slot) ∷ [])
 
 unfoldable pub flat_row_title : Problem → Row → List ℕ
-flat_row_title f row = joined (item_begin ∷ codes "ship " ∷ decimal row.ship ∷ course_text f row.ship row.course ∷ title_end ∷ [])
+flat_row_title f row = concat (item_begin ∷ codes "ship " ∷ decimal row.ship ∷ course_text f row.ship row.course ∷ title_end ∷ [])
 
 -- the ship's number, and the most that it may carry
 unfoldable pub flat_row_label : Problem → Row → List ℕ
-flat_row_label f row = line (codes "b") 16 (row_top row + 17) (joined (codes "ship " ∷ decimal row.ship ∷ [])) ++ line (codes "m") 16 (row_top row + 33) (joined (codes "most " ∷ decimal (most_carried f row.ship) ∷ []))
+flat_row_label f row = line (codes "b") 16 (row_top row + 17) (concat (codes "ship " ∷ decimal row.ship ∷ [])) ++ line (codes "m") 16 (row_top row + 33) (concat (codes "most " ∷ decimal (most_carried f row.ship) ∷ []))
 
 -- the window of a ship's values
 abbrev pub value_window : Problem → Row → Sailings
@@ -51,11 +52,11 @@ abbrev pub value_steps : Problem → Row → List ℕ
 value_steps f row = sailing_steps (codes "dr") (value_window f row) (λ slot. value_level (most_carried f row.ship) (value_at f row.ship slot)) ++ sailing_steps (codes "fl") (value_window f row) (λ slot. most_level (most_carried f row.ship) (value_at f row.ship slot))
 
 unfoldable pub values_text : Problem → Row → List ℕ
-values_text f row = joined (sailings_begin (value_window f row) ∷ value_steps f row ∷ value_mark f row row.course ∷ svg_end ∷ [])
+values_text f row = concat (sailings_begin (value_window f row) ∷ value_steps f row ∷ value_mark f row row.course ∷ svg_end ∷ [])
 
 -- what every row begins with
 unfoldable pub flat_row_begin : Problem → Row → List ℕ
-flat_row_begin f row = joined (flat_row_title f row ∷ stripe row.rank (row_top row) ∷ flat_row_label f row ∷ values_text f row ∷ [])
+flat_row_begin f row = concat (flat_row_title f row ∷ stripe row.rank (row_top row) ∷ flat_row_label f row ∷ values_text f row ∷ [])
 
 -- how long a ship must wait for another
 abbrev pub wait_bar : List ℕ → ℕ → Rule → List ℕ
@@ -80,12 +81,12 @@ fleet_bars slot ship [] = []
 fleet_bars slot ship (rule ∷ rules) = job_bars slot ship (rule_jobs rule) ++ fleet_bars slot ship rules
 
 unfoldable pub flat_bars : Problem → List ℕ → Row → ℕ → List ℕ
-flat_bars f table row slot = joined (bars_begin (row_top row) row.span ∷ flat_wait_bars table row.ship f.rules ∷ fleet_bars slot row.ship (fleets f) ∷ svg_end ∷ [])
+flat_bars f table row slot = concat (bars_begin (row_top row) row.span ∷ flat_wait_bars table row.ship f.rules ∷ fleet_bars slot row.ship (fleets f) ∷ svg_end ∷ [])
 
 -- what the ship carries, and the most that it may carry; of a ship that carries nothing in any slot nothing is said
 abbrev pub value_figures : Problem → Row → ℕ → List ℕ
 value_figures f row slot =
-    if nat_lt 0 (most_carried f row.ship) then line (codes "r b") 1268 (row_top row + 17) (decimal (cargo_in_slot f row.ship slot)) ++ line (codes "r m") 1268 (row_top row + 33) (joined (codes "of " ∷ decimal (most_carried f row.ship) ∷ []))
+    if nat_lt 0 (most_carried f row.ship) then line (codes "r b") 1268 (row_top row + 17) (decimal (worth f row.ship slot)) ++ line (codes "r m") 1268 (row_top row + 33) (concat (codes "of " ∷ decimal (most_carried f row.ship) ∷ []))
     else []
 
 -- the slot, and what the ship carries
@@ -96,11 +97,11 @@ flat_figures f row slot = line (codes "r b") 956 (row_top row + 17) (decimal slo
 unfoldable pub course_parts : Problem → List ℕ → Row → Course → List ℕ
 course_parts f table row Unplanned = []
 course_parts f table row Stays = stays_label (row_top row)
-course_parts f table row (Sails slot) = joined (pin (codes "ou") slot row.span (row_top row) ∷ flat_bars f table row slot ∷ flat_figures f row slot ∷ [])
+course_parts f table row (Sails slot) = concat (pin (codes "ou") slot row.span (row_top row) ∷ flat_bars f table row slot ∷ flat_figures f row slot ∷ [])
 
 -- the row of a ship in a timetable
 unfoldable pub planned_row_text : Problem → List ℕ → Row → List ℕ
-planned_row_text f table row = joined (flat_row_begin f row ∷ moves_window (row_top row) row.span (flat_open_level f table row.ship) (horizon f) ∷ course_parts f table row row.course ∷ group_end ∷ [])
+planned_row_text f table row = concat (flat_row_begin f row ∷ moves_window (row_top row) row.span (flat_open_level f table row.ship) (horizon f) ∷ course_parts f table row row.course ∷ group_end ∷ [])
 
 -- that a ship has no slot, where it has no value in any
 abbrev pub nowhere_text : Problem → Row → List ℕ
@@ -108,7 +109,7 @@ nowhere_text f row = if sails_nowhere f row.ship then no_slot (row_top row) else
 
 -- the row of a ship where there is no timetable
 unfoldable pub unplanned_row_text : Problem → Row → List ℕ
-unplanned_row_text f row = joined (flat_row_begin f row ∷ nowhere_text f row ∷ group_end ∷ [])
+unplanned_row_text f row = concat (flat_row_begin f row ∷ nowhere_text f row ∷ group_end ∷ [])
 
 abbrev pub planned_row : Problem → List ℕ → ℕ → Row
 planned_row f table ship = record { ship = ship; rank = rank_of table ship; span = picture_span f (Some table); course = course_of (Some (slice_index table ship)) (horizon f) }

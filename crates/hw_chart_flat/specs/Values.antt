@@ -1,16 +1,13 @@
 -- What a ship may carry, as the levels of its window: values reach 1,000,000,000,000, so a window counts them in units.
-use Rattle.std.specs.Prelude.{◌↔◌, ◌<◌, ℕ, ◌+◌, ◌-◌, ◌/◌, Bool, IsSome, is_none, nat_eq, if◌then◌else◌, Option, Some, None, unwrap_or}
+use Rattle.std.specs.Prelude.{◌↔◌, ◌<◌, ℕ, ◌+◌, ◌-◌, ◌/◌, Bool, IsSome, is_none, nat_eq, if◌then◌else◌, Option, Some, None}
 use Rattle.std.specs.List.{list_all, range_with_len}
 use Rattle.hw_model.specs.Problem.{Problem, horizon, value_at}
+use Rattle.hw_flat.specs.Carried.{worth}
 use Rattle.hw_chart.specs.Figures.{greatest_level}
-
--- what a ship carries in a slot, 0 where it may not sail
-abbrev pub cargo_in_slot : Problem → ℕ → ℕ → ℕ
-cargo_in_slot f ship slot = unwrap_or (value_at f ship slot) 0
 
 -- the most that a ship may carry in a slot in which ships sail
 unfoldable pub most_carried : Problem → ℕ → ℕ
-most_carried f ship = greatest_level (cargo_in_slot f ship) (horizon f)
+most_carried f ship = greatest_level (worth f ship) (horizon f)
 
 -- the ship has no value in any slot in which ships sail
 unfoldable pub sails_nowhere : Problem → ℕ → Bool

@@ -1,11 +1,11 @@
 //! The words and figures of a row.
 
-ghost use Rattle.std.specs.Prelude.{◌≡◌, ◌≤◌, ◌<◌, unwrap_or};
+ghost use Rattle.std.specs.Prelude.{◌≡◌, ◌≤◌, ◌<◌};
 ghost use Rattle.hw_model.specs.Problem.{horizon};
+ghost use Rattle.hw_flat.specs.Carried.{worth};
 ghost use Rattle.hw_desk.specs.Writers.{Puts};
 ghost use Rattle.hw_chart.specs.Courses.{SailsBefore};
 ghost use Rattle.hw_chart_flat.specs.Rows.{course_text, flat_figures, flat_row_title};
-ghost use Rattle.hw_chart_flat.specs.Values.{cargo_in_slot};
 
 use crate::row::{Row, row_y};
 use crate::values::{most, value};
@@ -19,9 +19,10 @@ use hw_model::{MOST_SHIPS, ShipId, Slot};
 fn carried(flat: &Flat, ship: ShipId, slot: Slot) -> u64
     requires ship_in { ship < flat.now.ships }
     requires slot_in { slot < horizon flat.now }
-    ensures { result ≡ cargo_in_slot flat.now ship slot }
+    ensures { result ≡ worth flat.now ship slot }
 {
-    value(flat, ship, slot).unwrap_or(0)
+    let _horizon = flat.horizon();
+    flat.worth(ship, slot)
 }
 
 /// Puts what a timetable says of a ship.

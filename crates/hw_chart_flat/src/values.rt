@@ -2,7 +2,8 @@
 
 ghost use Rattle.std.specs.Prelude.{◌≡◌, ◌<◌, ◌≤◌, unwrap_or, if◌then◌else◌};
 ghost use Rattle.hw_model.specs.Problem.{horizon, value_at};
-ghost use Rattle.hw_chart_flat.specs.Values.{cargo_in_slot, most_carried, most_level, sails_nowhere, tall_of, unit_of, value_level};
+ghost use Rattle.hw_flat.specs.Carried.{worth};
+ghost use Rattle.hw_chart_flat.specs.Values.{most_carried, most_level, sails_nowhere, tall_of, unit_of, value_level};
 
 use hw_chart::greatest;
 use hw_chart_svg::Levels;
@@ -18,13 +19,13 @@ struct Carried<'f> {
 }
 
 impl Levels for Carried<'_> {
-    ghost level = { λ c slot. cargo_in_slot c.flat.now c.ship slot };
+    ghost level = { λ c slot. worth c.flat.now c.ship slot };
 
     ghost end = { λ c. horizon c.flat.now };
 
     fn level(&self, slot: u32) -> u64 {
         let _horizon = self.flat.horizon();
-        self.flat.value(self.ship, slot).unwrap_or(0)
+        self.flat.worth(self.ship, slot)
     }
 }
 

@@ -5,9 +5,9 @@ use Rattle.hw_model.specs.Problem.{Problem}
 use Rattle.hw_chart_flat.specs.Pictures.{flat_picture_bottom}
 use Rattle.hw_chart_port.specs.Charts.{ChartParts}
 use Rattle.hw_chart_port.specs.Heads.{places}
-use Rattle.hw_chart_port.specs.Rows.{rank_in}
 use Rattle.hw_chart_laws.specs.Bands.{FlatPartsLieApart, IsFlatPart, IsPortPart, LieApart, Part, PortPartsLieApart, flat_band, lane, panel, port_band, row, ship_y, tide}
 use Rattle.hw_chart_laws.proofs.Ranks.{HasSlots, rank_below, ranks_differ}
+use Rattle.hw_chart.specs.Layout.{rank_in}
 
 -- ---- the picture of a port
 

@@ -7,11 +7,12 @@ use Rattle.std.proofs.lemmas.List.{append_cancel_left, append_cancel_right}
 use Rattle.std.proofs.lemmas.Nat.{le-div}
 use Rattle.hw_model.specs.Limits.{IsFlat}
 use Rattle.hw_model.specs.Problem.{IsTimetable, Problem, horizon, value_at}
+use Rattle.hw_flat.specs.Carried.{worth}
 use Rattle.hw_port_laws.proofs.Eachs.{each_at, each_of_all}
 use Rattle.hw_chart.specs.Figures.{greatest_level}
 use Rattle.hw_chart_flat.specs.declared.row.Row.{Row}
 use Rattle.hw_chart_flat.specs.Rows.{row_top}
-use Rattle.hw_chart_flat.specs.Values.{cargo_in_slot, most_carried, most_level, tall_of, unit_of, value_level}
+use Rattle.hw_chart_flat.specs.Values.{most_carried, most_level, tall_of, unit_of, value_level}
 use Rattle.hw_chart_laws.specs.Alike.{CarryAlike, SameClass, flat_row}
 use Rattle.hw_chart_laws.proofs.Bars.{full_where}
 use Rattle.hw_chart_laws.proofs.FlatRowParts.{ground_area, levels, most_line, most_text, shared, stripe_on, tall_in, title_in, tops, written}
@@ -23,7 +24,7 @@ value_small : (o : Option (Option ℕ)) → IfSome o (λ v. unwrap_or v 0 ≤ 1_
 value_small None h = omega arith
 value_small (Some v) h = h
 
-carried_small : (f : Problem) (ship slot : ℕ) → IsFlat f → cargo_in_slot f ship slot ≤ 1_000_000_000_000
+carried_small : (f : Problem) (ship slot : ℕ) → IsFlat f → worth f ship slot ≤ 1_000_000_000_000
 carried_small f ship slot limits =
     let Few : Option ℕ → Type 0 = λ v. unwrap_or v 0 ≤ 1_000_000_000_000 in
     value_small (slice_get f.values (ship * f.slots + slot)) (each_at Few f.values (ship * f.slots + slot) (each_of_all Few f.values limits.small_values))
@@ -37,7 +38,7 @@ greatest_small level (suc count) bound h =
 
 most_small : (f : Problem) (ship : ℕ) → IsFlat f → most_carried f ship ≤ 1_000_000_000_000
 unfolding most_carried
-most_small f ship limits = greatest_small (cargo_in_slot f ship) (horizon f) 1_000_000_000_000 (λ k. carried_small f ship k limits)
+most_small f ship limits = greatest_small (worth f ship) (horizon f) 1_000_000_000_000 (λ k. carried_small f ship k limits)
 
 tall_small : (top : ℕ) → top ≤ 1_000_000_000_000 → tall_of top ≤ 3_000_000_000_000
 tall_small top le = let units = div-le_self top (unit_of top) in omega (arith, units, le)

@@ -5,6 +5,7 @@ use Rattle.hw_model.specs.declared.rule.Job.{Job}
 use Rattle.hw_model.specs.declared.rule.Rule.{Rule}
 use Rattle.hw_model.specs.declared.rule.Rule.TheVariants.{Pair, After, Tugs}
 use Rattle.hw_model.specs.Problem.{Problem, horizon, value_at}
+use Rattle.hw_flat.specs.Carried.{worth}
 use Rattle.hw_model.specs.Rules.{busy}
 use Rattle.hw_chart_svg.specs.Sheets.{group_end}
 use Rattle.hw_chart.specs.declared.course.Course.{Course}
@@ -21,7 +22,7 @@ use Rattle.hw_chart_flat.specs.Legends.{all_flat_marks, flat_entries, flat_entry
 use Rattle.hw_chart_flat.specs.Moves.{flat_open_level}
 use Rattle.hw_chart_flat.specs.Pictures.{flat_columns, flat_panel_of, planned_fleet, planned_panels, flat_picture_sizes, unplanned_fleet, unplanned_panels}
 use Rattle.hw_chart_flat.specs.Rows.{flat_bars, course_parts, course_text, flat_figures, fleet_bars, job_bars, nowhere_text, flat_row_label, row_top, value_mark, value_window, values_text, wait_bar, flat_wait_bars}
-use Rattle.hw_chart_flat.specs.Values.{cargo_in_slot, most_carried, most_level, sails_nowhere, tall_of, value_level}
+use Rattle.hw_chart_flat.specs.Values.{most_carried, most_level, sails_nowhere, tall_of, value_level}
 use Rattle.hw_chart_laws.proofs.Legends.{AreSound, IsSound, of_legend_from}
 use Rattle.hw_chart_laws.proofs.Plain.{letters}
 use Rattle.hw_chart_laws.proofs.Spelled.{Spelled, also, fixed, of_number, nothing}
@@ -96,7 +97,7 @@ module _ {P : Tags → List ℕ → Tags → Type 0} (w : Writing P) where
 
   of_figures : {a : Tags} (f : Problem) (row : Row) (slot : ℕ) → P a (flat_figures f row slot) a
   unfolding flat_figures
-  of_figures f row slot = w.onward (says w (codes "r b") refl 956 (row_top row + 17) (of_number slot)) (if_so w (nat_lt 0 (most_carried f row.ship)) (w.onward (says w (codes "r b") refl 1268 (row_top row + 17) (of_number (cargo_in_slot f row.ship slot))) (says w (codes "r m") refl 1268 (row_top row + 33) (also (fixed (codes "of ") refl) (also (of_number (most_carried f row.ship)) nothing)))))
+  of_figures f row slot = w.onward (says w (codes "r b") refl 956 (row_top row + 17) (of_number slot)) (if_so w (nat_lt 0 (most_carried f row.ship)) (w.onward (says w (codes "r b") refl 1268 (row_top row + 17) (of_number (worth f row.ship slot))) (says w (codes "r m") refl 1268 (row_top row + 33) (also (fixed (codes "of ") refl) (also (of_number (most_carried f row.ship)) nothing)))))
 
   of_course : {a : Tags} (f : Problem) (table : List ℕ) (row : Row) (course : Course) → P a (course_parts f table row course) a
   unfolding course_parts

@@ -4,6 +4,7 @@ use Rattle.std.proofs.lemmas.Bool.{cases_eq, cases_lt, lt-ltb, le-ltb}
 use Rattle.std.proofs.lemmas.List.{append_cancel_left}
 use Rattle.std.proofs.lemmas.List.Elements.{All-get_or}
 use Rattle.hw_model.specs.Problem.{IsTimetable, Problem, horizon}
+use Rattle.hw_flat.specs.Carried.{worth}
 use Rattle.hw_chart_svg.specs.Sheets.{group_end, list_begin, picture_begin, title_end}
 use Rattle.hw_chart.specs.declared.course.Course.{Course}
 use Rattle.hw_chart.specs.declared.course.Course.TheVariants.{Unplanned, Stays, Sails}
@@ -16,7 +17,6 @@ use Rattle.hw_chart_flat.specs.Fleets.{fleets, picture_span}
 use Rattle.hw_chart_flat.specs.Legends.{flat_legend}
 use Rattle.hw_chart_flat.specs.Pictures.{body, flat_picture_bottom, flat_columns, flat_picture, flat_foot, flat_head, panels_y, planned_body, planned_panels, flat_picture_sizes}
 use Rattle.hw_chart_flat.specs.Rows.{course_text, planned_row, planned_row_text, planned_rows}
-use Rattle.hw_chart_flat.specs.Values.{cargo_in_slot}
 use Rattle.hw_chart_laws.proofs.Calm.{Still, both, calm_writing, cut, spelled}
 use Rattle.hw_chart_laws.proofs.FlatParts.{of_columns, of_legend, of_planned_rest, spelled_sizes}
 use Rattle.hw_chart_laws.proofs.FlatTrees.{flat_title, planned_is, planned_rest, spelled_title}
@@ -37,8 +37,8 @@ course_back f ship Stays (Sails slot) x y p q e = let no : ◌≡◌ {A = ℕ} 1
 course_back f ship (Sails slot) Unplanned x y p q e = let no : ◌≡◌ {A = ℕ} 44 60 = ap (λ (l : List ℕ). get_or l 0 0) e in absurd (omega (arith, no))
 course_back f ship (Sails slot) Stays x y p q e = let no : ◌≡◌ {A = ℕ} 97 116 = ap (λ (l : List ℕ). get_or l 3 0) e in absurd (omega (arith, no))
 course_back f ship (Sails slot) (Sails other) x y p q e =
-    let a : List ℕ = codes ", carries " ++ (decimal (cargo_in_slot f ship slot) ++ []) in
-    let b : List ℕ = codes ", carries " ++ (decimal (cargo_in_slot f ship other) ++ []) in
+    let a : List ℕ = codes ", carries " ++ (decimal (worth f ship slot) ++ []) in
+    let b : List ℕ = codes ", carries " ++ (decimal (worth f ship other) ++ []) in
     let digits = append_cancel_left (codes ", sails in slot ") ((decimal slot ++ a) ++ (title_end ++ x)) ((decimal other ++ b) ++ (title_end ++ y)) e in
     let apart = sym (append_assoc (decimal slot) a (title_end ++ x)) ∙ digits ∙ append_assoc (decimal other) b (title_end ++ y) in
     ap Sails (number_back slot other 44 _ _ refl p q apart)

@@ -1,8 +1,7 @@
 -- Texts that hold the same number of marks <: where a mark follows each, they can be told from what follows.
 use Rattle.std.proofs.Common.{◌≡◌, ◌+◌, ◌++◌, ◌∙◌, ◌||◌, ℕ, Bool, true, false, not, nat_eq, nat_lt, List, [], ◌∷◌, codes, decimal, drop, get_or, refl, ap, sym, arith, append_assoc, append-nil, if◌then◌else◌}
-use Rattle.std.specs.List.{list_all}
+use Rattle.std.specs.List.{list_all, concat}
 use Rattle.std.proofs.lemmas.Bool.{and_parts, cond_both}
-use Rattle.hw_chart_svg.specs.Joined.{joined}
 use Rattle.hw_chart_svg.specs.Lettering.{line, name_line, text_begin}
 use Rattle.hw_chart_svg.specs.Marks.{is_word}
 use Rattle.hw_chart_svg.specs.Names.{escaped}
@@ -120,7 +119,7 @@ name_first class x y name place t = cond_both (nat_lt place (width_of name)) _ _
 
 -- a name with a title, and one without
 abbrev titled_name : List ℕ → ℕ → ℕ → List ℕ → List ℕ → List ℕ
-titled_name class x y name shown = joined (text_begin class x y ∷ codes "><title>" ∷ escaped name ∷ codes "</title>" ∷ escaped shown ∷ codes "</text>\n" ∷ [])
+titled_name class x y name shown = concat (text_begin class x y ∷ codes "><title>" ∷ escaped name ∷ codes "</title>" ∷ escaped shown ∷ codes "</text>\n" ∷ [])
 
 abbrev either_name : Bool → List ℕ → ℕ → ℕ → List ℕ → List ℕ → List ℕ
 either_name b class x y name shown = if b then titled_name class x y name shown else line class x y (escaped name)

@@ -15,13 +15,15 @@ use Rattle.hw_port_model.specs.Numbers.{is_outgoing, whole}
 use Rattle.hw_chart_svg.specs.Numbers.{metres}
 use Rattle.hw_chart_port.proofs.Bounds.{sails_between}
 use Rattle.hw_chart.proofs.Ranks.{rank_small}
-use Rattle.hw_chart_port.specs.Charts.{ChartParts, IsChart, full_of, tall_between}
+use Rattle.hw_chart_port.specs.Charts.{ChartParts, IsChart, tall_between}
 use Rattle.hw_chart_port.specs.Drafts.{draft_level, short_level}
-use Rattle.hw_chart_port.specs.Rows.{rank_in, ranked_row, row_y}
+use Rattle.hw_chart_port.specs.Rows.{ranked_row, row_y}
+use Rattle.hw_chart.specs.Layout.{rank_in}
 use Rattle.hw_chart_laws.proofs.Bars.{short_less}
 use Rattle.hw_chart_laws.proofs.PortRowParts.{ground_area, number_text, shared}
 use Rattle.hw_chart_laws.proofs.Reading.{number_parted}
 use Rattle.hw_chart_laws.proofs.Shown.{IsSmall, block_back, figure_back, line_back, metres_back}
+use Rattle.hw_port_windows.specs.Statuses.{full_draft}
 
 -- ---- the full draft, in the line with the ship's number
 
@@ -47,7 +49,7 @@ full_by : (b : Bool) (light deep : ℤ) → Within (pos 0) (pos 10_000) light �
 full_by true light deep l d = d
 full_by false light deep l d = l
 
-full_within : (p : Parts) (s : ShipParts) → ShipKept p s → Within (pos 0) (pos 10_000) (full_of s)
+full_within : (p : Parts) (s : ShipParts) → ShipKept p s → Within (pos 0) (pos 10_000) (full_draft s)
 full_within p s k = full_by (is_outgoing s) s.light s.deep k.light k.deep
 
 whole_back : (a b : ℤ) → pos 0 ≤ℤ a → pos 0 ≤ℤ b → unsigned_abs a ≡ unsigned_abs b → a ≡ b
@@ -62,37 +64,37 @@ small_gap low high a b c d = grind (arith, ints)
 small_whole : (z : ℤ) (n : ℕ) → pos 0 ≤ℤ z → z ≤ℤ pos n → whole z ≤ n
 small_whole z n low high = grind (arith, ints)
 
-tall_small : (p : Parts) (s : ShipParts) → ShipKept p s → tall_between s.light (full_of s) ≤ 20_000
+tall_small : (p : Parts) (s : ShipParts) → ShipKept p s → tall_between s.light (full_draft s) ≤ 20_000
 tall_small p s k =
     let f = full_within p s k in
-    let gap = small_gap s.light (full_of s) k.light.low k.light.high f.low f.high in
+    let gap = small_gap s.light (full_draft s) k.light.low k.light.high f.low f.high in
     omega (arith, gap)
 
 -- a sailing draft is one between the light and the full one
 abbrev Between : ShipParts → Option ℤ → Type 0
-Between s o = IfSome o (λ d. (s.light ≤ℤ d) × (d ≤ℤ full_of s))
+Between s o = IfSome o (λ d. (s.light ≤ℤ d) × (d ≤ℤ full_draft s))
 
-level_small : (p : Parts) (s : ShipParts) → ShipKept p s → (o : Option ℤ) → Between s o → short_level (full_of s) (tall_between s.light (full_of s)) o < 2 ^ 64
+level_small : (p : Parts) (s : ShipParts) → ShipKept p s → (o : Option ℤ) → Between s o → short_level (full_draft s) (tall_between s.light (full_draft s)) o < 2 ^ 64
 level_small p s k None b = let tall = tall_small p s k in omega (arith, tall)
 level_small p s k (Some d) b =
-    let less = short_less s.light (full_of s) d b.0 b.1 in
+    let less = short_less s.light (full_draft s) d b.0 b.1 in
     let tall = tall_small p s k in
     omega (arith, tall, less)
 
 -- ---- a draft, read back from its level
 
-draft_back : (s r : ShipParts) (o q : Option ℤ) → full_of s ≡ full_of r → tall_between s.light (full_of s) ≡ tall_between r.light (full_of r) → Between s o → Between r q → short_level (full_of s) (tall_between s.light (full_of s)) o ≡ short_level (full_of r) (tall_between r.light (full_of r)) q → o ≡ q
+draft_back : (s r : ShipParts) (o q : Option ℤ) → full_draft s ≡ full_draft r → tall_between s.light (full_draft s) ≡ tall_between r.light (full_draft r) → Between s o → Between r q → short_level (full_draft s) (tall_between s.light (full_draft s)) o ≡ short_level (full_draft r) (tall_between r.light (full_draft r)) q → o ≡ q
 draft_back s r None None full tall b c e = refl
 draft_back s r None (Some d) full tall b c e =
-    let less = short_less r.light (full_of r) d c.0 c.1 in
+    let less = short_less r.light (full_draft r) d c.0 c.1 in
     absurd (omega (arith, e, tall, less))
 draft_back s r (Some d) None full tall b c e =
-    let less = short_less s.light (full_of s) d b.0 b.1 in
+    let less = short_less s.light (full_draft s) d b.0 b.1 in
     absurd (omega (arith, e, tall, less))
 draft_back s r (Some d) (Some k) full tall b c e =
-    let below : k ≤ℤ full_of s = rw full c.1 in
-    let same : unsigned_abs (full_of s -ℤ d) ≡ unsigned_abs (full_of s -ℤ k) = e ∙ ap (λ (f : ℤ). unsigned_abs (f -ℤ k)) (sym full) in
-    ap Some (gap_back (full_of s) d k b.1 below same)
+    let below : k ≤ℤ full_draft s = rw full c.1 in
+    let same : unsigned_abs (full_draft s -ℤ d) ≡ unsigned_abs (full_draft s -ℤ k) = e ∙ ap (λ (f : ℤ). unsigned_abs (f -ℤ k)) (sym full) in
+    ap Some (gap_back (full_draft s) d k b.1 below same)
 
 -- ---- outside its slots a ship doesn't sail
 
@@ -171,14 +173,14 @@ same_drafts one two v w s r is also_is at there e slot =
     let f = full_within one.port s a.kept in
     let g = full_within two.port r b.kept in
     let text = line_back (codes "m") 16 (y + 33) (z + 33) (number_text v s) (number_text w r) (omega (arith, a.small)) (omega (arith, b.small)) parts.number in
-    let m = small_whole (full_of s) 10_000 f.low f.high in
-    let n = small_whole (full_of r) 10_000 g.low g.high in
-    let fulls : whole (full_of s) ≡ whole (full_of r) = full_back (is_outgoing s) (is_outgoing r) v w (whole (full_of s)) (whole (full_of r)) (omega (arith, a.few)) (omega (arith, b.few)) (omega (arith, m)) (omega (arith, n)) text in
-    let full : full_of s ≡ full_of r = whole_back (full_of s) (full_of r) f.low g.low fulls in
+    let m = small_whole (full_draft s) 10_000 f.low f.high in
+    let n = small_whole (full_draft r) 10_000 g.low g.high in
+    let fulls : whole (full_draft s) ≡ whole (full_draft r) = full_back (is_outgoing s) (is_outgoing r) v w (whole (full_draft s)) (whole (full_draft r)) (omega (arith, a.few)) (omega (arith, b.few)) (omega (arith, m)) (omega (arith, n)) text in
+    let full : full_draft s ≡ full_draft r = whole_back (full_draft s) (full_draft r) f.low g.low fulls in
     let sides = block_back (codes "wi") (ground_area s) (ground_area r) (ground_small one v s is a) (ground_small two w r also_is b) parts.ground in
     let left : whole s.earliest ≡ whole r.earliest = sides.left in
     let right : whole s.latest + 1 ≡ whole r.latest + 1 = sides.right in
-    let tall : tall_between s.light (full_of s) ≡ tall_between r.light (full_of r) = sides.bottom in
+    let tall : tall_between s.light (full_draft s) ≡ tall_between r.light (full_draft r) = sides.bottom in
     let count : whole s.latest + 1 - whole s.earliest ≡ whole r.latest + 1 - whole r.earliest = omega (arith, left, right) in
     let none : (slot < whole s.earliest) ⊎ (whole s.latest < slot) → (slot < whole r.earliest) ⊎ (whole r.latest < slot) → sailing one.port one.tide v slot ≡ sailing two.port two.tide w slot = λ out outer.
     sails_as one v s slot a.at ∙ outside one.port one.tide s slot a.kept out ∙ sym (sails_as two w r slot b.at ∙ outside two.port two.tide r slot b.kept outer) in
@@ -187,7 +189,7 @@ same_drafts one two v w s r is also_is at there e slot =
       | inr begun ↦ elim (cases_lt (whole s.latest) slot) [
         | inl after ↦ none (inr after) (inr (omega (arith, after, right)))
         | inr inside ↦
-            let level = figure_back (codes "dr") (draft_level one v (full_of s) (tall_between s.light (full_of s))) (draft_level two w (full_of r) (tall_between r.light (full_of r))) (whole s.earliest) (whole s.latest + 1 - whole s.earliest) (tall_between s.light (full_of s)) (whole r.earliest) (whole r.latest + 1 - whole r.earliest) (tall_between r.light (full_of r)) (λ k. level_small one.port s a.kept (sailing one.port one.tide v k) (between one v s k a)) (λ k. level_small two.port r b.kept (sailing two.port two.tide w k) (between two w r k b)) left count tall parts.drafts slot begun (omega (arith, begun, inside)) in
+            let level = figure_back (codes "dr") (draft_level one v (full_draft s) (tall_between s.light (full_draft s))) (draft_level two w (full_draft r) (tall_between r.light (full_draft r))) (whole s.earliest) (whole s.latest + 1 - whole s.earliest) (tall_between s.light (full_draft s)) (whole r.earliest) (whole r.latest + 1 - whole r.earliest) (tall_between r.light (full_draft r)) (λ k. level_small one.port s a.kept (sailing one.port one.tide v k) (between one v s k a)) (λ k. level_small two.port r b.kept (sailing two.port two.tide w k) (between two w r k b)) left count tall parts.drafts slot begun (omega (arith, begun, inside)) in
             draft_back s r (sailing one.port one.tide v slot) (sailing two.port two.tide w slot) full tall (between one v s slot a) (between two w r slot b) level
       ]
     ]

@@ -20,7 +20,8 @@ use Rattle.hw_chart_port.specs.Heads.{columns_where, places, sizes}
 use Rattle.hw_chart_port.specs.Lanes.{lanes_from}
 use Rattle.hw_chart_port.specs.Pictures.{chart_of, foot, legend_of, picture_of_chart, port_picture}
 use Rattle.hw_chart_port.specs.Reasons.{hint_by}
-use Rattle.hw_chart_port.specs.Rows.{rank_in, rows_from}
+use Rattle.hw_chart_port.specs.Rows.{rows_from}
+use Rattle.hw_chart.specs.Layout.{rank_in}
 use Rattle.hw_chart_port.specs.Strips.{strips}
 use Rattle.hw_chart_port.specs.Titles.{course_title, ship_title}
 use Rattle.hw_chart_laws.proofs.Calm.{Still, both, calm_writing, cut, spelled}

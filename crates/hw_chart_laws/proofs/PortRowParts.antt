@@ -12,16 +12,17 @@ use Rattle.hw_chart_svg.specs.declared.sheet.Window.{Window}
 use Rattle.hw_chart.specs.declared.course.Course.{Course}
 use Rattle.hw_chart.specs.declared.course.Course.TheVariants.{Unplanned, Stays, Sails}
 use Rattle.hw_chart.specs.declared.row.Sailings.{Sailings}
-use Rattle.hw_chart.specs.Layout.{plot, stripe}
-use Rattle.hw_chart_port.specs.Charts.{ChartParts, course, full_of, mark_class, tall_between, way}
+use Rattle.hw_chart.specs.Layout.{plot, stripe, rank_in}
+use Rattle.hw_chart_port.specs.Charts.{ChartParts, course, mark_class, tall_between, way}
 use Rattle.hw_chart_port.specs.Closings.{closings}
 use Rattle.hw_chart_port.specs.Drafts.{draft_level, draft_steps, full_sailings, full_steps, fullness_level, moves_text, sailing_where, window_of}
-use Rattle.hw_chart_port.specs.Rows.{arrow, arrow_path, full_draft_word, rank_in, ranked_row, row_name, row_right, row_y}
+use Rattle.hw_chart_port.specs.Rows.{arrow, arrow_path, full_draft_word, ranked_row, row_name, row_right, row_y}
 use Rattle.hw_chart_laws.proofs.Marked.{AsMany, Begins, begins_either, both, fixed, line_first, name_first, of_block, of_line, of_shape, of_window, past_stripe, shape_first, spelled, told, told_name, window_first}
 use Rattle.hw_chart_laws.proofs.Plain.{Plain, letters, path}
 use Rattle.hw_chart_laws.proofs.PortTexts.{plain_arrow, plain_way, spelled_full, spelled_row}
 use Rattle.hw_chart_laws.proofs.PortTrees.{port_rest, port_title, ranked_is}
 use Rattle.hw_chart_laws.proofs.Spelled.{Spelled, also, fixed as words, nothing, of_metres, of_number}
+use Rattle.hw_port_windows.specs.Statuses.{full_draft}
 
 -- ---- a row, part by part, each with what follows it
 
@@ -34,20 +35,20 @@ drafts_on chart v s y = draft_steps chart v s (window_of chart s y) ++ rest_on c
 
 -- the slots in which the ship might sail
 abbrev pub ground_area : ShipParts → Area
-ground_area s = record { left = whole s.earliest; right = whole s.latest + 1; top = 0; bottom = tall_between s.light (full_of s) }
+ground_area s = record { left = whole s.earliest; right = whole s.latest + 1; top = 0; bottom = tall_between s.light (full_draft s) }
 
 abbrev ground_on : ChartParts → ℕ → ShipParts → ℕ → List ℕ
 ground_on chart v s y = block (codes "wi") (ground_area s) ++ drafts_on chart v s y
 
 abbrev window_in : ChartParts → ShipParts → ℕ → Window
-window_in chart s y = plot (y + 3) 21 chart.span (tall_between s.light (full_of s))
+window_in chart s y = plot (y + 3) 21 chart.span (tall_between s.light (full_draft s))
 
 abbrev window_on : ChartParts → ℕ → ShipParts → ℕ → List ℕ
 window_on chart v s y = window_begin (window_in chart s y) ++ ground_on chart v s y
 
 -- the ship's number and its full draft
 abbrev pub number_text : ℕ → ShipParts → List ℕ
-number_text v s = codes "ship " ++ (decimal v ++ (full_draft_word s ++ (metres (whole (full_of s)) ++ (codes " m" ++ []))))
+number_text v s = codes "ship " ++ (decimal v ++ (full_draft_word s ++ (metres (whole (full_draft s)) ++ (codes " m" ++ []))))
 
 abbrev pub number_in : ℕ → ShipParts → ℕ → List ℕ
 number_in v s y = line (codes "m") 16 (y + 33) (number_text v s)
@@ -88,14 +89,14 @@ arrows_as : (s r : ShipParts) (y z : ℕ) → AsMany (arrow s y) (arrow r z)
 arrows_as s r y z = of_shape (plain_way s) (plain_arrow s y) (plain_way r) (plain_arrow r z)
 
 spelled_number : (v : ℕ) (s : ShipParts) → Spelled (number_text v s)
-spelled_number v s = also (words (codes "ship ") refl) (also (of_number v) (also (spelled_full s) (also (of_metres (whole (full_of s))) (also (words (codes " m") refl) nothing))))
+spelled_number v s = also (words (codes "ship ") refl) (also (of_number v) (also (spelled_full s) (also (of_metres (whole (full_draft s))) (also (words (codes " m") refl) nothing))))
 
 -- the path of the drafts
 abbrev drafts_path : ChartParts → ℕ → ShipParts → List ℕ
-drafts_path chart v s = steps_path (draft_level chart v (full_of s) (tall_between s.light (full_of s))) (whole s.earliest) (whole s.latest + 1 - whole s.earliest) (tall_between s.light (full_of s))
+drafts_path chart v s = steps_path (draft_level chart v (full_draft s) (tall_between s.light (full_draft s))) (whole s.earliest) (whole s.latest + 1 - whole s.earliest) (tall_between s.light (full_draft s))
 
 plain_drafts : (chart : ChartParts) (v : ℕ) (s : ShipParts) → Plain (drafts_path chart v s)
-plain_drafts chart v s = path (draft_level chart v (full_of s) (tall_between s.light (full_of s))) (whole s.earliest) (whole s.latest + 1 - whole s.earliest) (tall_between s.light (full_of s))
+plain_drafts chart v s = path (draft_level chart v (full_draft s) (tall_between s.light (full_draft s))) (whole s.earliest) (whole s.latest + 1 - whole s.earliest) (tall_between s.light (full_draft s))
 
 drafts_as : (one two : ChartParts) (v w : ℕ) (s r : ShipParts) (y z : ℕ) → AsMany (draft_steps one v s (window_of one s y)) (draft_steps two w r (window_of two r z))
 drafts_as one two v w s r y z = of_shape (letters (codes "dr") refl) (plain_drafts one v s) (letters (codes "dr") refl) (plain_drafts two w r)
@@ -112,13 +113,13 @@ stripe_first chart v s rank =
 where_first : (chart : ChartParts) (v : ℕ) (s : ShipParts) (window : Sailings) (c : Course) (t : List ℕ) → Begins (sailing_where chart v s window c ++ (svg_end ++ t))
 where_first chart v s window Unplanned t = record { first = refl }
 where_first chart v s window Stays t = record { first = refl }
-where_first chart v s window (Sails slot) t = shape_first (mark_class s) (area_path (record { left = slot; right = slot + 1; top = draft_level chart v (full_of s) window.tall slot; bottom = window.tall })) (svg_end ++ t)
+where_first chart v s window (Sails slot) t = shape_first (mark_class s) (area_path (record { left = slot; right = slot + 1; top = draft_level chart v (full_draft s) window.tall slot; bottom = window.tall })) (svg_end ++ t)
 
 rest_first : (chart : ChartParts) (v : ℕ) (s : ShipParts) (y : ℕ) → Begins (rest_on chart v s y)
 rest_first chart v s y =
     let more : List ℕ = moves_text chart v y ++ (closings chart v (window_of chart s y) ++ (row_right chart v s y (course chart v) ++ group_end)) in
     let window = window_of chart s y in
-    begins_either (is_outgoing s) (full_sailings chart v s window) (sailing_where chart v s window (course chart v) ++ (svg_end ++ more)) (shape_first (codes "fl") (steps_path (fullness_level chart v (full_of s) window.tall) window.first (window.end - window.first) window.tall) (sailing_where chart v s window (course chart v) ++ (svg_end ++ more))) (where_first chart v s window (course chart v) more)
+    begins_either (is_outgoing s) (full_sailings chart v s window) (sailing_where chart v s window (course chart v) ++ (svg_end ++ more)) (shape_first (codes "fl") (steps_path (fullness_level chart v (full_draft s) window.tall) window.first (window.end - window.first) window.tall) (sailing_where chart v s window (course chart v) ++ (svg_end ++ more))) (where_first chart v s window (course chart v) more)
 
 -- the stripe of a row isn't an arrow
 not_arrow : (out : Bool) (a : Area) (p t u : List ℕ) → block (codes "bd") a ++ t ≡ shape (if out then codes "ou" else codes "in") p ++ u → ⊥

@@ -13,7 +13,7 @@ use Rattle.hw_chart.specs.Layout.{plot, stripe}
 use Rattle.hw_chart_port.specs.declared.sailing.Sailing.{Sailing}
 use Rattle.hw_chart_port.specs.declared.stays.Wait.{Wait}
 use Rattle.hw_chart_port.specs.Bars.{bars, clearings}
-use Rattle.hw_chart_port.specs.Charts.{ChartParts, course, full_of, slot_in_chart}
+use Rattle.hw_chart_port.specs.Charts.{ChartParts, course, slot_in_chart}
 use Rattle.hw_chart_port.specs.Closings.{closings_from}
 use Rattle.hw_chart_port.specs.Drafts.{draft_level, drafts_text, fullness_level, open_level, sailing_where, window_of}
 use Rattle.hw_chart_port.specs.Figures.{allowed_figures, deepest_cargo, cargo_figures, draft_figures, figures, keel_figures, time_figures}
@@ -27,22 +27,23 @@ use Rattle.hw_chart_laws.proofs.PortWaters.{of_reasons}
 use Rattle.hw_chart_laws.proofs.Shared.{figure, five, if_so, of_bar, of_mark, of_moves, of_pin, of_sailings, of_stays, of_stripe, says, three}
 use Rattle.hw_chart_laws.proofs.Spelled.{also, fixed, nothing, of_clock, of_metres, of_number, of_tenths}
 use Rattle.hw_chart_laws.proofs.Writing.{Tags, Writing, group}
+use Rattle.hw_port_windows.specs.Statuses.{full_draft}
 
 module _ {P : Tags → List ℕ → Tags → Type 0} (w : Writing P) where
   of_number_line : {a : Tags} (v : ℕ) (s : ShipParts) (full y : ℕ) → P a (row_number v (if is_outgoing s then codes ", full " else codes ", draft ") full y) a
   of_number_line v s full y = says w (codes "m") refl 16 (y + 33) (also (fixed (codes "ship ") refl) (also (of_number v) (also (spelled_full s) (also (of_metres full) (also (fixed (codes " m") refl) nothing)))))
 
   of_left : {a : Tags} (v : ℕ) (s : ShipParts) (y : ℕ) → P a (row_left v s y) a
-  of_left v s y = w.onward (w.shaped (plain_way s) (plain_arrow s y)) (w.onward (w.called 16 (y + 17) s.name 148 (letters (codes "b") refl)) (of_number_line v s (whole (full_of s)) y))
+  of_left v s y = w.onward (w.shaped (plain_way s) (plain_arrow s y)) (w.onward (w.called 16 (y + 17) s.name 148 (letters (codes "b") refl)) (of_number_line v s (whole (full_draft s)) y))
 
   of_where : {a : Tags} (chart : ChartParts) (v : ℕ) (s : ShipParts) (window : Sailings) (course : Course) → P a (sailing_where chart v s window course) a
   of_where chart v s window Unplanned = w.none
   of_where chart v s window Stays = w.none
-  of_where chart v s window (Sails slot) = of_mark w window slot (draft_level chart v (full_of s) window.tall slot) (plain_mark s)
+  of_where chart v s window (Sails slot) = of_mark w window slot (draft_level chart v (full_draft s) window.tall slot) (plain_mark s)
 
   of_drafts : {a : Tags} (chart : ChartParts) (v : ℕ) (s : ShipParts) (window : Sailings) (course : Course) → P a (drafts_text chart v s window course) a
   of_drafts chart v s window course =
-      five w (of_sailings w window) (figure w (codes "dr") refl (draft_level chart v (full_of s) window.tall) window.first (window.end - window.first) window.tall) (if_so w (is_outgoing s) (figure w (codes "fl") refl (fullness_level chart v (full_of s) window.tall) window.first (window.end - window.first) window.tall)) (of_where chart v s window course) w.closed
+      five w (of_sailings w window) (figure w (codes "dr") refl (draft_level chart v (full_draft s) window.tall) window.first (window.end - window.first) window.tall) (if_so w (is_outgoing s) (figure w (codes "fl") refl (fullness_level chart v (full_draft s) window.tall) window.first (window.end - window.first) window.tall)) (of_where chart v s window course) w.closed
 
   of_closings : {a : Tags} (chart : ChartParts) (v : ℕ) (window : Sailings) (slot count : ℕ) → P a (closings_from chart v window slot count) a
   of_closings chart v window slot zero = w.none
@@ -69,7 +70,7 @@ module _ {P : Tags → List ℕ → Tags → Type 0} (w : Writing P) where
   of_time g y = w.onward (says w (codes "r b") refl 956 (y + 17) (of_clock g.time)) (says w (codes "r m") refl 956 (y + 33) (also (fixed (codes "slot ") refl) (also (of_number g.slot) nothing)))
 
   of_draft : {a : Tags} (s : ShipParts) (g : Sailing) (y : ℕ) → P a (draft_figures s g y) a
-  of_draft s g y = w.onward (says w (codes "r b") refl 1020 (y + 17) (of_metres g.draft)) (if_so w (is_outgoing s) (says w (codes "r m") refl 1020 (y + 33) (spelled_short (whole (full_of s)) g.draft)))
+  of_draft s g y = w.onward (says w (codes "r b") refl 1020 (y + 17) (of_metres g.draft)) (if_so w (is_outgoing s) (says w (codes "r m") refl 1020 (y + 33) (spelled_short (whole (full_draft s)) g.draft)))
 
   of_allowed : {a : Tags} (chart : ChartParts) (g : Sailing) (y : ℕ) → P a (allowed_figures chart g y) a
   of_allowed chart g y = w.onward (w.lettered 1100 (y + 17) (plain_tight g) (of_metres g.allowed)) (w.called 1100 (y + 33) (waypoint_name chart.port g.by) 72 (letters (codes "r m") refl))

@@ -8,13 +8,13 @@ use Rattle.hw_chart_svg.specs.Sheets.{group_end, item_begin, picture, picture_be
 use Rattle.hw_chart.specs.declared.outcome.CargoUnit.TheVariants.{Tonnes}
 use Rattle.hw_chart.specs.declared.outcome.Outcome.{Outcome}
 use Rattle.hw_chart.specs.Headings.{ground, heading_lines, style}
-use Rattle.hw_chart.specs.Layout.{stripe}
+use Rattle.hw_chart.specs.Layout.{stripe, rank_in}
 use Rattle.hw_chart.specs.Outcomes.{badge, title_text}
 use Rattle.hw_chart_port.specs.Charts.{ChartParts, course}
 use Rattle.hw_chart_port.specs.Heads.{places, sizes}
 use Rattle.hw_chart_port.specs.Pictures.{bottom, chart_of, horizon_line, legend_of, panels, picture_of_chart, port_picture, times}
 use Rattle.hw_chart_port.specs.Reasons.{hint_by}
-use Rattle.hw_chart_port.specs.Rows.{rank_in, ranked_row, row_left, row_right, row_windows, row_y, rows_from, ship_list}
+use Rattle.hw_chart_port.specs.Rows.{ranked_row, row_left, row_right, row_windows, row_y, rows_from, ship_list}
 use Rattle.hw_chart_port.specs.Titles.{row_title}
 use Rattle.hw_chart_laws.specs.Trees.{IsPicture}
 use Rattle.hw_chart_laws.proofs.Dated.{of_times}

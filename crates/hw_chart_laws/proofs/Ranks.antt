@@ -6,8 +6,7 @@ use Rattle.std.proofs.lemmas.Bool.Decides.{nat_tests}
 use Rattle.std.proofs.lemmas.List.FromFn.{get_or-enumerate_from, length-enumerate_from}
 use Rattle.std.proofs.lemmas.List.Sums.{count_by-le-length, sum_by-cons}
 use Rattle.hw_lemmas.proofs.Truths.{one_le}
-use Rattle.hw_chart.specs.Layout.{rank_of, stands_above}
-use Rattle.hw_chart_port.specs.Rows.{rank_in}
+use Rattle.hw_chart.specs.Layout.{rank_of, stands_above, rank_in}
 
 -- ---- how often two tests hold
 

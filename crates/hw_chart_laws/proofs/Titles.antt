@@ -2,7 +2,7 @@
 use Rattle.std.proofs.Common.{ℕ, Option, Some, None, codes, refl}
 use Rattle.hw_cert_lines.specs.declared.check.Verdict.{Verdict}
 use Rattle.hw_cert_lines.specs.declared.check.Verdict.TheVariants.{Optimal, Infeasible, Unfinished}
-use Rattle.hw_chart_svg.specs.Joined.{joined}
+use Rattle.std.specs.List.{concat}
 use Rattle.hw_chart_svg.specs.Numbers.{tonnes_label}
 use Rattle.hw_chart.specs.declared.outcome.CargoUnit.{CargoUnit}
 use Rattle.hw_chart.specs.declared.outcome.CargoUnit.TheVariants.{Tonnes, Plain as PlainUnit}
@@ -22,10 +22,10 @@ plain_unit : (unit : CargoUnit) → Plain (unit_text unit)
 plain_unit Tonnes = letters _ refl
 plain_unit PlainUnit = letters _ refl
 
-plain_amount : (unit : CargoUnit) (cargo : ℕ) → Plain (joined (amount_parts unit cargo))
+plain_amount : (unit : CargoUnit) (cargo : ℕ) → Plain (concat (amount_parts unit cargo))
 plain_amount unit cargo = both (plain_cargo unit cargo) (both (plain_unit unit) nothing)
 
-plain_most : (unit : CargoUnit) (bound : Option ℕ) → Plain (joined (most_parts unit bound))
+plain_most : (unit : CargoUnit) (bound : Option ℕ) → Plain (concat (most_parts unit bound))
 plain_most unit None = nothing
 plain_most unit (Some bound) = both (letters (codes ", at most ") refl) (plain_amount unit bound)
 

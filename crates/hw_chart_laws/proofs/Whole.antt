@@ -1,7 +1,6 @@
 -- A picture is one element in which trees stand before its style sheet and after it.
 use Rattle.std.proofs.Common.{◌≡◌, ◌++◌, ◌∙◌, ◌-◌, ℕ, true, List, [], ◌∷◌, codes, decimal, length, take, drop, refl, ap, sym, append_assoc}
-use Rattle.std.specs.List.{list_all}
-use Rattle.hw_chart_svg.specs.Joined.{joined}
+use Rattle.std.specs.List.{list_all, concat}
 use Rattle.hw_chart_svg.specs.Names.{byte_text}
 use Rattle.hw_chart_svg.specs.Sheets.{picture, picture_begin, size_begin}
 use Rattle.hw_chart_svg.specs.Trees.{Attribute, Nodes, words, no_more, node, node_text, attributes_text, nodes_text}
@@ -81,8 +80,8 @@ pub one_picture : (width height : ℕ) (title middle : List ℕ) → Plain title
 one_picture width height title middle t leads =
     let trees = trees_of leads in
     let spelled = plain_same title t.none in
-    let title_is : node_text (title_node title) ≡ joined (codes "<title>" ∷ (title ++ []) ∷ codes "</title>" ∷ []) = ap (λ (l : List ℕ). joined (codes "<title>" ∷ (l ++ []) ∷ codes "</title>" ∷ [])) (sym spelled) in
-    let within_is : inside (heads title) sheet trees.nodes ≡ codes "\n" ++ (joined (codes "<title>" ∷ (title ++ []) ∷ codes "</title>" ∷ []) ++ (codes "\n" ++ (style ++ middle))) =
+    let title_is : node_text (title_node title) ≡ concat (codes "<title>" ∷ (title ++ []) ∷ codes "</title>" ∷ []) = ap (λ (l : List ℕ). concat (codes "<title>" ∷ (l ++ []) ∷ codes "</title>" ∷ [])) (sym spelled) in
+    let within_is : inside (heads title) sheet trees.nodes ≡ codes "\n" ++ (concat (codes "<title>" ∷ (title ++ []) ∷ codes "</title>" ∷ []) ++ (codes "\n" ++ (style ++ middle))) =
     headed title (codes "<style>" ++ (sheet ++ (codes "</style>\n" ++ nodes_text trees.nodes)))
     ∙ ap (λ (l : List ℕ). codes "\n" ++ (node_text (title_node title) ++ (codes "\n" ++ (codes "<style>" ++ (sheet ++ (codes "</style>\n" ++ l)))))) (sym trees.same)
     ∙ ap (λ (l : List ℕ). codes "\n" ++ (node_text (title_node title) ++ (codes "\n" ++ l))) (sym (styled middle))
@@ -96,5 +95,5 @@ one_picture width height title middle t leads =
       heads = refl;
       styled = sheet_is;
       parts = trees.sound;
-      same = picture_nested width height title (style ++ middle) ∙ ap (λ (l : List ℕ). joined (codes "<svg" ∷ attributes_text (picture_attributes width height title) ∷ codes ">" ∷ l ∷ codes "</svg>" ∷ []) ++ codes "\n") (sym within_is);
+      same = picture_nested width height title (style ++ middle) ∙ ap (λ (l : List ℕ). concat (codes "<svg" ∷ attributes_text (picture_attributes width height title) ∷ codes ">" ∷ l ∷ codes "</svg>" ∷ []) ++ codes "\n") (sym within_is);
     }

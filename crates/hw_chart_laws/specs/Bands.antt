@@ -8,7 +8,8 @@ use Rattle.hw_chart_flat.specs.Rows.{planned_row, row_top as flat_row_y, unplann
 use Rattle.hw_chart_port.specs.Charts.{ChartParts}
 use Rattle.hw_chart_port.specs.Heads.{places}
 use Rattle.hw_chart_port.specs.Lanes.{lane_y}
-use Rattle.hw_chart_port.specs.Rows.{rank_in, row_y}
+use Rattle.hw_chart_port.specs.Rows.{row_y}
+use Rattle.hw_chart.specs.Layout.{rank_in}
 use Rattle.hw_chart_port.specs.Strips.{place_y}
 
 -- the tide at a waypoint, the row of a ship, the lane of a section, or a panel of tugs

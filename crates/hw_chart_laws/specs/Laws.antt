@@ -10,10 +10,11 @@ use Rattle.hw_port_model.specs.Drafts.{sailing, value}
 use Rattle.hw_port_model.specs.Timetables.{IsPortTimetable}
 use Rattle.hw_chart.specs.declared.outcome.Outcome.{Outcome}
 use Rattle.hw_chart_flat.specs.Pictures.{flat_picture}
-use Rattle.hw_chart_port.specs.Charts.{ChartParts, full_of, tall_between}
+use Rattle.hw_chart_port.specs.Charts.{ChartParts, tall_between}
 use Rattle.hw_chart_port.specs.Drafts.{draft_level, fullness_level}
 use Rattle.hw_chart_port.specs.Pictures.{port_picture}
 use Rattle.hw_chart_laws.specs.Trees.{IsPicture}
+use Rattle.hw_port_windows.specs.Statuses.{full_draft}
 
 -- the picture of a flat problem is one element of trees, with a timetable or without one, whatever was proved
 abbrev pub FlatPicturesAreTrees : Type 0
@@ -33,15 +34,15 @@ PortPlansReadBack = (p : Parts) (h : TideParts) (table other : List ℕ) (outcom
 
 -- the foot of a ship's window
 abbrev pub foot_of : ShipParts → ℕ
-foot_of s = tall_between s.light (full_of s)
+foot_of s = tall_between s.light (full_draft s)
 
 -- the level of a slot among the drafts of a ship
 abbrev pub bar_level : ChartParts → ℕ → ShipParts → ℕ → ℕ
-bar_level chart v s slot = draft_level chart v (full_of s) (foot_of s) slot
+bar_level chart v s slot = draft_level chart v (full_draft s) (foot_of s) slot
 
 -- the same among its full drafts
 abbrev pub level_of_full_draft : ChartParts → ℕ → ShipParts → ℕ → ℕ
-level_of_full_draft chart v s slot = fullness_level chart v (full_of s) (foot_of s) slot
+level_of_full_draft chart v s slot = fullness_level chart v (full_draft s) (foot_of s) slot
 
 -- a bar stands above the foot of a ship's window exactly in the slots in which the port lets the ship sail
 abbrev pub BarsAreSlots : Type 0
@@ -49,4 +50,4 @@ BarsAreSlots = (chart : ChartParts) (v slot : ℕ) (s : ShipParts) → PortKept 
 
 -- a full bar reaches the top exactly in the slots in which the ship sails with its full draft
 abbrev pub FullBarsAreFullDrafts : Type 0
-FullBarsAreFullDrafts = (chart : ChartParts) (v slot : ℕ) (s : ShipParts) → (level_of_full_draft chart v s slot ≡ 0) ↔ (sailing chart.port chart.tide v slot ≡ Some (full_of s))
+FullBarsAreFullDrafts = (chart : ChartParts) (v slot : ℕ) (s : ShipParts) → (level_of_full_draft chart v s slot ≡ 0) ↔ (sailing chart.port chart.tide v slot ≡ Some (full_draft s))

@@ -1,7 +1,6 @@
 -- Trees of elements as XML wants them, and pictures made of them.
 use Rattle.std.specs.Prelude.{◌≡◌, ◌++◌, ◌&&◌, ◌||◌, ℕ, Bool, true, false, not, nat_eq, nat_le, bytes_eq, List, [], ◌∷◌, codes}
-use Rattle.std.specs.List.{list_all}
-use Rattle.hw_chart_svg.specs.Joined.{joined}
+use Rattle.std.specs.List.{list_all, concat}
 use Rattle.hw_chart_svg.specs.Marks.{is_word}
 use Rattle.hw_chart_svg.specs.Trees.{Attribute, Node, Nodes, words, element, no_more, node, attributes_text, nodes_text}
 
@@ -63,4 +62,4 @@ pub record IsPicture (text : List ℕ) : Type 0 where
   pub heads : are_trees before ≡ true
   pub styled : list_all is_sheet sheet ≡ true
   pub parts : are_trees after ≡ true
-  pub same : text ≡ joined (codes "<svg" ∷ attributes_text attributes ∷ codes ">" ∷ inside before sheet after ∷ codes "</svg>" ∷ []) ++ codes "\n"
+  pub same : text ≡ concat (codes "<svg" ∷ attributes_text attributes ∷ codes ">" ∷ inside before sheet after ∷ codes "</svg>" ∷ []) ++ codes "\n"

@@ -1,7 +1,7 @@
 -- A picture is drawn over as many slots as it shows, and part by part.
 use Rattle.std.proofs.Common.{◌≡◌, ◌++◌, ◌∙◌, ℕ, List, [], ◌∷◌, Option, ap, sym, subst, append_assoc, append-nil}
 use Rattle.hw_desk.specs.Writers.{WriterState, Puts}
-use Rattle.hw_chart_svg.specs.Joined.{joined}
+use Rattle.std.specs.List.{concat}
 use Rattle.hw_chart.specs.declared.outcome.Outcome.{Outcome}
 use Rattle.hw_chart.specs.Legends.{LegendEntry}
 use Rattle.hw_port.specs.Whole.{Parts}
@@ -20,16 +20,16 @@ unfolding port_rest
 rest_drawn p h table more span x y e drawing = subst (λ n. Puts (rest_of_picture (record { port = p; tide = h; table = table; span = n }) more) x y) e drawing
 
 -- the parts of a picture, grouped by what its rest has
-pub regrouped : (head hint legend panels times line end : List ℕ) → joined ((head ++ (hint ++ legend)) ∷ panels ∷ joined (times ∷ line ∷ end ∷ []) ∷ []) ≡ joined (head ∷ hint ∷ joined (legend ∷ panels ∷ times ∷ line ∷ []) ∷ end ∷ [])
+pub regrouped : (head hint legend panels times line end : List ℕ) → concat ((head ++ (hint ++ legend)) ∷ panels ∷ concat (times ∷ line ∷ end ∷ []) ∷ []) ≡ concat (head ∷ hint ∷ concat (legend ∷ panels ∷ times ∷ line ∷ []) ∷ end ∷ [])
 regrouped head hint legend panels times line end =
-    ap (λ (foot : List ℕ). (head ++ (hint ++ legend)) ++ (panels ++ foot)) (append-nil (joined (times ∷ line ∷ end ∷ [])))
-    ∙ append_assoc head (hint ++ legend) (joined (panels ∷ times ∷ line ∷ end ∷ []))
-    ∙ ap (λ (text : List ℕ). head ++ text) (append_assoc hint legend (joined (panels ∷ times ∷ line ∷ end ∷ [])))
+    ap (λ (foot : List ℕ). (head ++ (hint ++ legend)) ++ (panels ++ foot)) (append-nil (concat (times ∷ line ∷ end ∷ [])))
+    ∙ append_assoc head (hint ++ legend) (concat (panels ∷ times ∷ line ∷ end ∷ []))
+    ∙ ap (λ (text : List ℕ). head ++ text) (append_assoc hint legend (concat (panels ∷ times ∷ line ∷ end ∷ [])))
     ∙ ap (λ (text : List ℕ). head ++ (hint ++ text)) (sym inner)
   where
-    inner : joined (legend ∷ panels ∷ times ∷ line ∷ []) ++ joined (end ∷ []) ≡ joined (legend ∷ panels ∷ times ∷ line ∷ end ∷ [])
+    inner : concat (legend ∷ panels ∷ times ∷ line ∷ []) ++ concat (end ∷ []) ≡ concat (legend ∷ panels ∷ times ∷ line ∷ end ∷ [])
     inner =
-        append_assoc legend (joined (panels ∷ times ∷ line ∷ [])) (joined (end ∷ []))
-        ∙ ap (λ (text : List ℕ). legend ++ text) (append_assoc panels (joined (times ∷ line ∷ [])) (joined (end ∷ []))
-        ∙ ap (λ (text : List ℕ). panels ++ text) (append_assoc times (joined (line ∷ [])) (joined (end ∷ []))
-        ∙ ap (λ (text : List ℕ). times ++ text) (append_assoc line [] (joined (end ∷ [])))))
+        append_assoc legend (concat (panels ∷ times ∷ line ∷ [])) (concat (end ∷ []))
+        ∙ ap (λ (text : List ℕ). legend ++ text) (append_assoc panels (concat (times ∷ line ∷ [])) (concat (end ∷ []))
+        ∙ ap (λ (text : List ℕ). panels ++ text) (append_assoc times (concat (line ∷ [])) (concat (end ∷ []))
+        ∙ ap (λ (text : List ℕ). times ++ text) (append_assoc line [] (concat (end ∷ [])))))

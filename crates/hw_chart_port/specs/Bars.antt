@@ -1,7 +1,7 @@
 -- The bars of a sailing: when its berth isn't clear yet, when it stays after another ship, when it is under way, and when it holds
 -- its tugs.
 use Rattle.std.specs.Prelude.{ℕ, ◌+◌, List, [], ◌∷◌, ◌++◌, codes, nat_eq, nat_lt, if◌then◌else◌}
-use Rattle.hw_chart_svg.specs.Joined.{joined}
+use Rattle.std.specs.List.{concat}
 use Rattle.hw_chart_svg.specs.Sheets.{svg_end}
 use Rattle.hw_port.specs.declared.parts.BerthPair.{BerthPair}
 use Rattle.hw_port.specs.Parts.{ShipParts}
@@ -36,4 +36,4 @@ abbrev pub tugs_where : ChartParts → ShipParts → ℕ → List ℕ
 tugs_where chart s slot = if nat_lt 0 (whole s.tugs) then tug_bars chart s slot else []
 
 abbrev pub bars : ChartParts → ℕ → ShipParts → ℕ → ℕ → List ℕ
-bars chart v s slot y = joined (bars_begin y chart.span ∷ clearings chart v chart.port.berths ∷ stays_of chart v chart.port.after ∷ voyage s slot ∷ tugs_where chart s slot ∷ svg_end ∷ [])
+bars chart v s slot y = concat (bars_begin y chart.span ∷ clearings chart v chart.port.berths ∷ stays_of chart v chart.port.after ∷ voyage s slot ∷ tugs_where chart s slot ∷ svg_end ∷ [])

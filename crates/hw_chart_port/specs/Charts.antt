@@ -1,5 +1,5 @@
 -- A port with its tide, and a timetable or none: what a picture is drawn from.
-use Rattle.std.specs.Prelude.{◌≡◌, ◌<◌, ◌≤◌, length, IfSome, min, ℕ, ◌+◌, ◌*◌, ◌/◌, ℤ, pos, ◌-ℤ◌, List, codes, Option, Some, None, slice_get, option_and_then, unwrap_or, unsigned_abs, if◌then◌else◌}
+use Rattle.std.specs.Prelude.{◌≡◌, ◌<◌, ◌≤◌, length, IfSome, min, ℕ, ◌+◌, ◌*◌, ◌/◌, ℤ, pos, ◌-ℤ◌, List, codes, Option, Some, None, unwrap_or, unsigned_abs, if◌then◌else◌}
 use Rattle.hw_port.specs.Kept.{PortKept}
 use Rattle.hw_port.specs.Parts.{ShipParts}
 use Rattle.hw_port.specs.Whole.{Parts}
@@ -8,17 +8,13 @@ use Rattle.hw_port_model.specs.Numbers.{whole, horizon_of, is_outgoing}
 use Rattle.hw_port_model.specs.Drafts.{allowed, sailing, value}
 use Rattle.hw_chart_calendar.specs.Calendars.{midnight}
 use Rattle.hw_chart.specs.declared.course.Course.{Course}
-use Rattle.hw_chart.specs.Courses.{course_of}
+use Rattle.hw_chart.specs.Courses.{course_of, slot_in}
 
 pub record ChartParts : Type 0 where
   pub port : Parts
   pub tide : TideParts
   pub table : Option (List ℕ)
   pub span : ℕ
-
--- the slot that a timetable gives a ship; none where there is no timetable
-abbrev pub slot_in : Option (List ℕ) → ℕ → Option ℕ
-slot_in table ship = option_and_then (λ slots. slice_get slots ship) table
 
 -- what the timetable says of a ship
 abbrev pub course_in : Parts → Option (List ℕ) → ℕ → Course
@@ -47,10 +43,6 @@ tall_over units = units + units / 8 + 1
 -- the same from one number up to another
 abbrev pub tall_between : ℤ → ℤ → ℕ
 tall_between low high = tall_over (unsigned_abs (high -ℤ low))
-
--- the draft of a ship that the water doesn't keep back
-abbrev pub full_of : ShipParts → ℤ
-full_of s = if is_outgoing s then s.deep else s.light
 
 -- the draft at which a ship sails in a slot, 0 where it may not
 abbrev pub draft_in : ChartParts → ℕ → ℕ → ℕ

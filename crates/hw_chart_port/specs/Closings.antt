@@ -1,6 +1,6 @@
 -- The slots of a ship's window that are closed for it, hatched in its row.
 use Rattle.std.specs.Prelude.{ℕ, zero, suc, ◌+◌, ◌-◌, Bool, not, ◌&&◌, nat_lt, List, [], ◌∷◌, ◌++◌, codes, decimal, if◌then◌else◌}
-use Rattle.hw_chart_svg.specs.Joined.{joined}
+use Rattle.std.specs.List.{concat}
 use Rattle.hw_chart_svg.specs.Numbers.{clock}
 use Rattle.hw_chart_svg.specs.Shapes.{titled}
 use Rattle.hw_port_windows.specs.Closings.{closed_in}
@@ -18,7 +18,7 @@ abbrev pub run_begins : (ℕ → Bool) → ℕ → ℕ → Bool
 run_begins shut first slot = shut slot && not (nat_lt first slot && shut (slot - 1))
 
 unfoldable pub closing_title : ChartParts → ℕ → ℕ → List ℕ
-closing_title chart from end = joined (codes "closed in slots " ∷ decimal from ∷ codes " to " ∷ decimal (end - 1) ∷ codes ", " ∷ clock (minutes_to chart from) ∷ codes " to " ∷ clock (minutes_to chart end) ∷ [])
+closing_title chart from end = concat (codes "closed in slots " ∷ decimal from ∷ codes " to " ∷ decimal (end - 1) ∷ codes ", " ∷ clock (minutes_to chart from) ∷ codes " to " ∷ clock (minutes_to chart end) ∷ [])
 
 -- slots up to the end, hatched; on the picture itself, since a window would stretch the hatch
 abbrev pub hatched : ChartParts → ℕ → ℕ → ℕ → List ℕ

@@ -1,6 +1,6 @@
 -- Where the parts of a picture stand, its sizes, and the heads of its columns.
 use Rattle.std.specs.Prelude.{ℕ, ◌+◌, ◌-◌, ◌*◌, List, [], ◌∷◌, codes, decimal, length, Option, is_some, if◌then◌else◌}
-use Rattle.hw_chart_svg.specs.Joined.{joined}
+use Rattle.std.specs.List.{concat}
 use Rattle.hw_chart_svg.specs.Lettering.{line}
 use Rattle.hw_port.specs.Whole.{Parts}
 use Rattle.hw_port_model.specs.Numbers.{whole}
@@ -19,14 +19,14 @@ abbrev pub places : Parts → Places
 places p = places_of (length p.waypoints) (length p.ships) (length p.sections)
 
 unfoldable pub sizes_text : ℕ → ℕ → ℕ → ℕ → List ℕ
-sizes_text ships slots minutes fleet = joined (codes "ships " ∷ decimal ships ∷ codes ", slots " ∷ decimal slots ∷ codes " of " ∷ decimal minutes ∷ codes " min, tugs " ∷ decimal fleet ∷ [])
+sizes_text ships slots minutes fleet = concat (codes "ships " ∷ decimal ships ∷ codes ", slots " ∷ decimal slots ∷ codes " of " ∷ decimal minutes ∷ codes " min, tugs " ∷ decimal fleet ∷ [])
 
 abbrev pub sizes : Parts → List ℕ
 sizes p = sizes_text (length p.ships) (whole p.slots) (whole p.slot_minutes) (whole p.fleet)
 
 -- the heads of the columns right of the rows
 abbrev pub columns : ℕ → List ℕ
-columns y = joined (line (codes "m r") 956 y (codes "sails") ∷ line (codes "m r") 1020 y (codes "draft m") ∷ line (codes "m r") 1100 y (codes "allowed m") ∷ line (codes "m r") 1186 y (codes "under keel m") ∷ line (codes "m r") 1268 y (codes "cargo t") ∷ [])
+columns y = concat (line (codes "m r") 956 y (codes "sails") ∷ line (codes "m r") 1020 y (codes "draft m") ∷ line (codes "m r") 1100 y (codes "allowed m") ∷ line (codes "m r") 1186 y (codes "under keel m") ∷ line (codes "m r") 1268 y (codes "cargo t") ∷ [])
 
 -- they stand only where there is a timetable
 abbrev pub columns_where : Option (List ℕ) → ℕ → List ℕ

@@ -1,6 +1,6 @@
 -- The one-way sections: who is in them when.
 use Rattle.std.specs.Prelude.{ℕ, ◌+◌, ◌*◌, List, [], ◌∷◌, ◌++◌, codes, nat_eq, if◌then◌else◌}
-use Rattle.hw_chart_svg.specs.Joined.{joined}
+use Rattle.std.specs.List.{concat}
 use Rattle.hw_chart_svg.specs.Lettering.{line, name_line}
 use Rattle.hw_chart_svg.specs.Names.{escaped}
 use Rattle.hw_chart_svg.specs.Numbers.{clock}
@@ -28,7 +28,7 @@ stay_of chart s slot stretch = record {
 }
 
 unfoldable pub stay_title : List ℕ → List ℕ → Stay → List ℕ
-stay_title ship section stay = joined (escaped ship ∷ codes " in " ∷ escaped section ∷ codes " from " ∷ clock stay.begins ∷ codes " to " ∷ clock stay.ends ∷ [])
+stay_title ship section stay = concat (escaped ship ∷ codes " in " ∷ escaped section ∷ codes " from " ∷ clock stay.begins ∷ codes " to " ∷ clock stay.ends ∷ [])
 
 abbrev pub stay_class : ShipParts → List ℕ
 stay_class s = by_direction s (codes "ou ga") (codes "in ga")
@@ -58,13 +58,13 @@ abbrev pub lane_y : ChartParts → ℕ → ℕ
 lane_y chart place = (places chart.port).lanes + 28 * place
 
 abbrev pub lane_begin : ChartParts → List ℕ → ℕ → List ℕ
-lane_begin chart section y = joined (name_line (codes "b") 16 (y + 13) section 148 ∷ window_begin (plot y 18 chart.span 2) ∷ block (codes "wi") (record { left = 0; right = chart.span; top = 0; bottom = 2 }) ∷ [])
+lane_begin chart section y = concat (name_line (codes "b") 16 (y + 13) section 148 ∷ window_begin (plot y 18 chart.span 2) ∷ block (codes "wi") (record { left = 0; right = chart.span; top = 0; bottom = 2 }) ∷ [])
 
 abbrev pub lane_end : ℕ → List ℕ
 lane_end y = svg_end ++ line (codes "m") 900 (y + 13) (codes "one way: out above, in below")
 
 unfoldable pub lane_text : ChartParts → ℕ → List ℕ → List ℕ
-lane_text chart place section = joined (lane_begin chart section (lane_y chart place) ∷ stays_from chart place section 0 chart.port.ships ∷ lane_end (lane_y chart place) ∷ [])
+lane_text chart place section = concat (lane_begin chart section (lane_y chart place) ∷ stays_from chart place section 0 chart.port.ships ∷ lane_end (lane_y chart place) ∷ [])
 
 -- the lanes of the sections from this place on
 abbrev pub lanes_from : ChartParts → ℕ → List Section → List ℕ

@@ -9,13 +9,13 @@ use Rattle.hw_port_model.specs.Numbers.{horizon_of, whole}
 use Rattle.hw_port_model.specs.Drafts.{sailing_draft}
 use Rattle.hw_port_model.specs.Permitted.{PortPermits}
 use Rattle.hw_port_model.specs.Flattened.{flattened}
-use Rattle.hw_chart_port.specs.Charts.{full_of}
 use Rattle.hw_chart_port.specs.Fleets.{tugs_held_in}
 use Rattle.hw_chart_port.specs.Moves.{could_move}
+use Rattle.hw_port_windows.specs.Statuses.{full_draft}
 
 -- a sailing draft lies between the light and the full one, so that a level lies in its window
 abbrev pub SailsBetween : Type 0
-SailsBetween = (p : Parts) (h : TideParts) (s : ShipParts) (slot : ℕ) → s.light ≤ℤ s.deep → IfSome (sailing_draft p h s slot) (λ d. (s.light ≤ℤ d) × (d ≤ℤ full_of s))
+SailsBetween = (p : Parts) (h : TideParts) (s : ShipParts) (slot : ℕ) → s.light ≤ℤ s.deep → IfSome (sailing_draft p h s slot) (λ d. (s.light ≤ℤ d) × (d ≤ℤ full_draft s))
 
 -- a ship could move to a slot exactly where the port permits the timetable with that slot for it
 abbrev pub MovesArePermitted : Type 0

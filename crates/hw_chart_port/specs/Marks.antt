@@ -17,11 +17,12 @@ use Rattle.hw_chart_port.specs.declared.marks.SailingMark.{SailingMark}
 use Rattle.hw_chart_port.specs.declared.marks.SailingMark.TheVariants.{Passes, PassesOut, HoldsTugs, TugsTurn, MustWait, WaitsOn, AtLimit, BelowFull}
 use Rattle.hw_chart_port.specs.declared.reasons.Reason.TheVariants.{Shut}
 use Rattle.hw_chart_port.specs.declared.sailing.Sailing.{Sailing}
-use Rattle.hw_chart_port.specs.Charts.{ChartParts, course, full_of, slot_in_chart}
+use Rattle.hw_chart_port.specs.Charts.{ChartParts, course, slot_in_chart}
 use Rattle.hw_chart_port.specs.Fleets.{tugs_held_in}
 use Rattle.hw_chart_port.specs.Moves.{could_move}
 use Rattle.hw_chart_port.specs.Reasons.{has_no_slot, keeps_in}
 use Rattle.hw_chart_port.specs.Sailings.{sailing_of}
+use Rattle.hw_port_windows.specs.Statuses.{full_draft}
 
 -- ---- marks that a ship has with a timetable or without one
 
@@ -37,7 +38,7 @@ sails_at full (Some draft) = int_eq draft full
 -- a ship has this mark; the one of closed slots where closing is a reason against a slot of its window
 abbrev pub window_has : ChartParts → WindowMark → ℕ → ShipParts → Bool
 window_has chart MaySail v s = not (has_no_slot chart v)
-window_has chart FullDraft v s = is_outgoing s && in_some_slot chart (λ slot. sails_at (full_of s) (sailing chart.port chart.tide v slot))
+window_has chart FullDraft v s = is_outgoing s && in_some_slot chart (λ slot. sails_at (full_draft s) (sailing chart.port chart.tide v slot))
 window_has chart CouldMove v s = in_some_slot chart (could_move chart.port chart.tide chart.table v)
 window_has chart Outgoing v s = is_outgoing s
 window_has chart Incoming v s = not (is_outgoing s)
@@ -73,7 +74,7 @@ abbrev pub is_at_limit : Sailing → Bool
 is_at_limit g = nat_eq g.draft g.allowed
 
 abbrev pub is_below_full : ShipParts → Sailing → Bool
-is_below_full s g = is_outgoing s && not (nat_eq g.draft (whole (full_of s)))
+is_below_full s g = is_outgoing s && not (nat_eq g.draft (whole (full_draft s)))
 
 -- it has this mark
 abbrev pub sailing_has : ChartParts → SailingMark → ℕ → ShipParts → ℕ → Bool

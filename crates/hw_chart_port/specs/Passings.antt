@@ -1,8 +1,8 @@
 -- The passes of ships at a waypoint, each with the tide that it needs.
 use Rattle.std.specs.Prelude.{ℕ, ◌+◌, ℤ, pos, ◌+ℤ◌, ◌-ℤ◌, List, [], ◌∷◌, ◌++◌, codes, decimal, nat_eq, if◌then◌else◌, unsigned_abs}
 use Rattle.std.specs.Int.{int_max}
+use Rattle.std.specs.List.{concat}
 use Rattle.hw_draft.specs.Passages.{passage_of, under_keel, water, waypoint_name}
-use Rattle.hw_chart_svg.specs.Joined.{joined}
 use Rattle.hw_chart_svg.specs.Names.{escaped}
 use Rattle.hw_chart_svg.specs.Numbers.{clock, metres}
 use Rattle.hw_chart_svg.specs.Shapes.{titled}
@@ -40,7 +40,7 @@ passing chart strip ship pass = passing_by chart strip ship.draft (passage_of ch
 
 -- when a ship passes, and in how much water
 unfoldable pub passing_title : List ℕ → List ℕ → Passing → List ℕ
-passing_title ship waypoint p = joined (escaped ship ∷ codes " passes " ∷ escaped waypoint ∷ codes " in slot " ∷ decimal p.slot ∷ codes ", " ∷ clock p.time ∷ codes ": draft " ∷ metres p.draft ∷ codes ", water " ∷ metres p.water ∷ codes ", under keel " ∷ metres p.keel ∷ codes ", at least " ∷ metres p.clearance ∷ [])
+passing_title ship waypoint p = concat (escaped ship ∷ codes " passes " ∷ escaped waypoint ∷ codes " in slot " ∷ decimal p.slot ∷ codes ", " ∷ clock p.time ∷ codes ": draft " ∷ metres p.draft ∷ codes ", water " ∷ metres p.water ∷ codes ", under keel " ∷ metres p.keel ∷ codes ", at least " ∷ metres p.clearance ∷ [])
 
 -- from the tide that it needs down
 abbrev pub passing_area : Strip → Passing → Area

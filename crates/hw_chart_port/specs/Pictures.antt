@@ -1,6 +1,6 @@
 -- The whole picture of a port's plan.
 use Rattle.std.specs.Prelude.{ℕ, ◌+◌, Option, Some, None, List, [], ◌∷◌, ◌++◌}
-use Rattle.hw_chart_svg.specs.Joined.{joined}
+use Rattle.std.specs.List.{concat}
 use Rattle.hw_chart_svg.specs.Sheets.{svg_end}
 use Rattle.hw_port.specs.Whole.{Parts}
 use Rattle.hw_tide.specs.Levels.{TideParts}
@@ -33,7 +33,7 @@ head chart outcome = heading Tonnes outcome ((places chart.port).bottom + 28) (s
 
 -- the tides, the ships, the sections and the tugs, one below another
 abbrev pub panels : ChartParts → List ℕ
-panels chart = joined (strips chart ∷ columns_where chart.table ((places chart.port).rows) ∷ ship_list chart ∷ lanes_from chart 0 chart.port.sections ∷ fleet_panel chart chart.table ∷ [])
+panels chart = concat (strips chart ∷ columns_where chart.table ((places chart.port).rows) ∷ ship_list chart ∷ lanes_from chart 0 chart.port.sections ∷ fleet_panel chart chart.table ∷ [])
 
 -- how far down they end
 abbrev pub bottom : ChartParts → ℕ
@@ -53,10 +53,10 @@ horizon_line chart = span_end (horizon_of chart.port) chart.span (bottom chart)
 
 -- the grid, and the end of the picture
 abbrev pub foot : ChartParts → List ℕ
-foot chart = joined (times chart ∷ horizon_line chart ∷ svg_end ∷ [])
+foot chart = concat (times chart ∷ horizon_line chart ∷ svg_end ∷ [])
 
 unfoldable pub picture_of_chart : ChartParts → Outcome → List ℕ
-picture_of_chart chart outcome = joined (head chart outcome ∷ panels chart ∷ foot chart ∷ [])
+picture_of_chart chart outcome = concat (head chart outcome ∷ panels chart ∷ foot chart ∷ [])
 
 abbrev pub chart_of : Parts → TideParts → Option (List ℕ) → ChartParts
 chart_of p h table = record { port = p; tide = h; table = table; span = port_picture_span p table }

@@ -1,7 +1,7 @@
 -- How long a ship stays in port that sails after another one: from the slot of that one to its own.
 use Rattle.std.specs.Prelude.{ℕ, ◌+◌, ◌-◌, ◌*◌, List, [], ◌∷◌, ◌++◌, codes, nat_eq, slice_get, if◌then◌else◌}
 use Rattle.std.specs.Option.{option_map_or}
-use Rattle.hw_chart_svg.specs.Joined.{joined}
+use Rattle.std.specs.List.{concat}
 use Rattle.hw_chart_svg.specs.Names.{escaped}
 use Rattle.hw_chart_svg.specs.Numbers.{clock}
 use Rattle.hw_chart_svg.specs.Shapes.{titled}
@@ -26,7 +26,7 @@ wait_of chart a = record {
 }
 
 unfoldable pub wait_title : List ℕ → List ℕ → Wait → List ℕ
-wait_title second first wait = joined (escaped second ∷ codes " after " ∷ escaped first ∷ codes ": " ∷ clock wait.waited ∷ codes ", at least " ∷ clock wait.least ∷ [])
+wait_title second first wait = concat (escaped second ∷ codes " after " ∷ escaped first ∷ codes ": " ∷ clock wait.waited ∷ codes ", at least " ∷ clock wait.least ∷ [])
 
 -- the whole stay, and over it the time that the ship must wait
 abbrev pub wait_bars : List ℕ → List ℕ → Wait → List ℕ

@@ -1,8 +1,8 @@
 -- The tide at each waypoint.
 use Rattle.std.specs.Prelude.{ℕ, ◌+◌, ◌*◌, zero, suc, ℤ, pos, ◌-ℤ◌, ◌-◌, List, [], ◌∷◌, ◌++◌, codes, length, slice_index_or, unsigned_abs}
 use Rattle.std.specs.Int.{int_max, int_min}
+use Rattle.std.specs.List.{concat}
 use Rattle.hw_chart_svg.specs.Figures.{steps}
-use Rattle.hw_chart_svg.specs.Joined.{joined}
 use Rattle.hw_chart_svg.specs.Lettering.{line, name_line}
 use Rattle.hw_chart_svg.specs.Numbers.{height_text, metres}
 use Rattle.hw_chart_svg.specs.Sheets.{svg_end, window_begin}
@@ -53,7 +53,7 @@ abbrev pub strip_y : Strip → ℕ
 strip_y strip = place_y strip.place
 
 abbrev pub strip_label : Strip → List ℕ → List ℕ
-strip_label strip name = name_line (codes "b") 16 (strip_y strip + 16) name 148 ++ line (codes "m") 16 (strip_y strip + 32) (joined (codes "charted " ∷ metres strip.depth ∷ codes " m" ∷ []))
+strip_label strip name = name_line (codes "b") 16 (strip_y strip + 16) name 148 ++ line (codes "m") 16 (strip_y strip + 32) (concat (codes "charted " ∷ metres strip.depth ∷ codes " m" ∷ []))
 
 abbrev pub strip_window : ChartParts → Strip → List ℕ
 strip_window chart strip = window_begin (plot (strip_y strip) 40 chart.span (tall_between strip.low strip.high))
@@ -67,7 +67,7 @@ water_steps chart strip = tide_steps chart.tide strip (shown chart)
 
 -- the least and the greatest of the heights that are shown
 abbrev pub strip_heights : ChartParts → Strip → List ℕ
-strip_heights chart strip = line (codes "m") 900 (strip_y strip + 16) (joined (codes "tide " ∷ height_text (least_height (height_in chart.tide strip.place) (shown chart)) ∷ codes " to " ∷ height_text (greatest_of (height_in chart.tide strip.place) (shown chart)) ∷ codes " m" ∷ []))
+strip_heights chart strip = line (codes "m") 900 (strip_y strip + 16) (concat (codes "tide " ∷ height_text (least_height (height_in chart.tide strip.place) (shown chart)) ∷ codes " to " ∷ height_text (greatest_of (height_in chart.tide strip.place) (shown chart)) ∷ codes " m" ∷ []))
 
 -- the rows that are shown at a waypoint, and the times at which they begin
 abbrev pub column_of : ChartParts → Strip → ColumnParts
@@ -78,7 +78,7 @@ abbrev pub strip_waters : ChartParts → Strip → List ℕ
 strip_waters chart strip = waters_text (column_of chart strip) High (strip_y strip - 4) ++ waters_text (column_of chart strip) Low (strip_y strip + 51)
 
 abbrev pub strip_text : ChartParts → Strip → List ℕ → List ℕ
-strip_text chart strip name = joined (strip_label strip name ∷ strip_window chart strip ∷ water_steps chart strip ∷ marks_from chart strip 0 chart.port.ships ∷ svg_end ∷ strip_heights chart strip ∷ strip_waters chart strip ∷ [])
+strip_text chart strip name = concat (strip_label strip name ∷ strip_window chart strip ∷ water_steps chart strip ∷ marks_from chart strip 0 chart.port.ships ∷ svg_end ∷ strip_heights chart strip ∷ strip_waters chart strip ∷ [])
 
 -- the strip of the waypoint at a place
 unfoldable pub strip_at_place : ChartParts → Heights → ℕ → Waypoint → List ℕ

@@ -1,7 +1,7 @@
 -- The title of a ship's row: the whole row in words.
 use Rattle.std.specs.Prelude.{ℕ, List, [], ◌∷◌, ◌++◌, codes, decimal}
+use Rattle.std.specs.List.{concat}
 use Rattle.hw_draft.specs.Passages.{waypoint_name}
-use Rattle.hw_chart_svg.specs.Joined.{joined}
 use Rattle.hw_chart_svg.specs.Names.{escaped}
 use Rattle.hw_chart_svg.specs.Numbers.{clock, metres, tonnes_label}
 use Rattle.hw_port.specs.Parts.{ShipParts}
@@ -12,19 +12,19 @@ use Rattle.hw_chart_port.specs.Charts.{ChartParts, by_direction}
 use Rattle.hw_chart_port.specs.Sailings.{sailing_of}
 
 unfoldable pub ship_title : List ℕ → ℕ → List ℕ
-ship_title name v = joined (escaped name ∷ codes ", ship " ∷ decimal v ∷ [])
+ship_title name v = concat (escaped name ∷ codes ", ship " ∷ decimal v ∷ [])
 
 abbrev pub way_title : ShipParts → List ℕ
 way_title s = by_direction s (codes ", sails out") (codes ", comes in")
 
 unfoldable pub time_title : Sailing → List ℕ
-time_title g = joined (codes " in slot " ∷ decimal g.slot ∷ codes ", " ∷ clock g.time ∷ [])
+time_title g = concat (codes " in slot " ∷ decimal g.slot ∷ codes ", " ∷ clock g.time ∷ [])
 
 unfoldable pub load_title : List ℕ → Sailing → List ℕ
-load_title by g = joined (codes ", draft " ∷ metres g.draft ∷ codes " m, allowed " ∷ metres g.allowed ∷ codes " m by " ∷ escaped by ∷ codes ", cargo " ∷ tonnes_label g.cargo ∷ codes " t" ∷ [])
+load_title by g = concat (codes ", draft " ∷ metres g.draft ∷ codes " m, allowed " ∷ metres g.allowed ∷ codes " m by " ∷ escaped by ∷ codes ", cargo " ∷ tonnes_label g.cargo ∷ codes " t" ∷ [])
 
 abbrev pub sailing_title : ChartParts → ShipParts → Sailing → List ℕ
-sailing_title chart s g = joined (way_title s ∷ time_title g ∷ load_title (waypoint_name chart.port g.by) g ∷ [])
+sailing_title chart s g = concat (way_title s ∷ time_title g ∷ load_title (waypoint_name chart.port g.by) g ∷ [])
 
 -- what the timetable says of the ship
 abbrev pub course_title : ChartParts → ℕ → ShipParts → Course → List ℕ

@@ -8,7 +8,7 @@ ghost use Rattle.hw_chart.specs.Courses.{SailsBefore};
 ghost use Rattle.hw_chart_port.specs.Drafts.{draft_level, drafts_text, full_steps, fullness_level, moves_text, open_level, sailing_where, window_of};
 
 use crate::chart::Chart;
-use crate::numbers::{by_direction, full_of, tall_over};
+use crate::numbers::{by_direction, tall_over};
 use hw_chart::{
     Course, Sailings, put_moves_window, put_sailing_mark, put_sailing_steps, put_sailings_begin,
 };
@@ -17,6 +17,7 @@ use hw_desk::Writer;
 use hw_draft::natural;
 use hw_model::ShipId;
 use hw_port::Ship;
+use hw_port_windows::full_draft;
 
 /// How much a ship's draft is short of its full one in each slot, in centimetres; or only the slots in which it might sail with
 /// its full draft, as the top of its window. Otherwise, and where it may not sail, the foot of the window.
@@ -81,7 +82,7 @@ pub fn window(chart: &Chart, ship: &Ship, y: u32) -> Sailings
     Sailings {
         y,
         span: chart.span(),
-        tall: tall_over(full_of(ship).abs_diff(ship.light)),
+        tall: tall_over(full_draft(ship).abs_diff(ship.light)),
         first: natural(ship.earliest),
         end: natural(ship.latest) + 1,
     }
@@ -103,7 +104,7 @@ fn put_full_steps<W: Writer>(
         let levels = Drafts {
             chart,
             ship: number,
-            full: full_of(ship),
+            full: full_draft(ship),
             tall: window.tall,
             only_full: true,
         };
@@ -132,7 +133,7 @@ fn put_sailing_where<W: Writer>(
             let levels = Drafts {
                 chart,
                 ship: number,
-                full: full_of(ship),
+                full: full_draft(ship),
                 tall: window.tall,
                 only_full: false,
             };
@@ -161,7 +162,7 @@ pub fn put_drafts<W: Writer>(
     let levels = Drafts {
         chart,
         ship: number,
-        full: full_of(ship),
+        full: full_draft(ship),
         tall: window.tall,
         only_full: false,
     };

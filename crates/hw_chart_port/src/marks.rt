@@ -12,15 +12,15 @@ ghost use Rattle.hw_chart_port.specs.Moves.{could_move};
 use crate::bars::{incoming_of, tugs_of};
 use crate::chart::Chart;
 use crate::fleet::is_fleet_held;
-use crate::numbers::{full_of, natural_full};
+use crate::numbers::natural_full;
 use crate::reasons::{Reason, has_no_slot, is_reason_for};
 use crate::sailing::sailing_of;
-use crate::span::turnaround;
 use crate::stays::{first_of, second_of};
 use hw_chart::Course;
-use hw_draft::natural;
+use hw_draft::{natural, turnaround};
 use hw_model::{MOST_SHIPS, ShipId, Slot};
 use hw_port::{AfterPair, BerthPair, Ship};
+use hw_port_windows::full_draft;
 
 /// A kind of mark that the legend names.
 #[derive(Clone, Copy)]
@@ -94,7 +94,7 @@ fn window_has(chart: &Chart, mark: WindowMark, number: ShipId, ship: &Ship) -> b
     match mark {
         WindowMark::MaySail => !has_no_slot(chart, number),
         WindowMark::FullDraft => {
-            ship.is_outgoing() && sails_somewhere_at(chart, number, full_of(ship))
+            ship.is_outgoing() && sails_somewhere_at(chart, number, full_draft(ship))
         }
         WindowMark::CouldMove => could_move(chart, number),
         WindowMark::Outgoing => ship.is_outgoing(),

@@ -3,7 +3,8 @@
 ghost use Rattle.std.specs.Prelude.{◌≡◌, ◌≤◌, ◌*◌, pos};
 ghost use Rattle.hw_port.specs.Kept.{Within};
 ghost use Rattle.hw_port_model.specs.Numbers.{whole};
-ghost use Rattle.hw_chart_port.specs.Charts.{by_direction, full_of as full_draft, tall_over as tall_of};
+ghost use Rattle.hw_chart_port.specs.Charts.{by_direction, tall_over as tall_of};
+ghost use Rattle.hw_port_windows.specs.Statuses.{full_draft};
 
 use hw_draft::natural;
 use hw_port::Ship;
@@ -24,18 +25,7 @@ pub fn tall_over(units: u64) -> u64
     units + units / 8 + 1
 }
 
-/// The draft of a ship that the water doesn't keep back.
-pub fn full_of(ship: &Ship) -> i64
-    ensures { result ≡ full_draft ship.now }
-{
-    if ship.is_outgoing() {
-        ship.deep
-    } else {
-        ship.light
-    }
-}
-
-/// The same as a number that is never negative.
+/// The draft at which a ship sails that the water doesn't keep back, in centimetres.
 pub fn natural_full(ship: &Ship) -> u32
     requires light { Within (pos 0) (pos 10_000) ship.now.light }
     requires deep { Within (pos 0) (pos 10_000) ship.now.deep }

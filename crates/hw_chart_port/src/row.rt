@@ -3,8 +3,9 @@
 ghost use Rattle.std.specs.Prelude.{◌≡◌, ◌≤◌, ◌<◌, ◌+◌, length, All};
 ghost use Rattle.hw_desk.specs.Writers.{Puts};
 ghost use Rattle.hw_port.specs.Kept.{ShipKept};
+ghost use Rattle.hw_chart.specs.Layout.{rank_in};
 ghost use Rattle.hw_chart_port.specs.Charts.{course};
-ghost use Rattle.hw_chart_port.specs.Rows.{rank_in, ranked_row, row_left, row_right, rows_from, ship_list};
+ghost use Rattle.hw_chart_port.specs.Rows.{ranked_row, row_left, row_right, rows_from, ship_list};
 
 use crate::bars::put_bars;
 use crate::chart::Chart;

@@ -2,14 +2,14 @@
 
 ghost use Rattle.std.specs.Prelude.{◌≡◌, ◌≤◌, ◌<◌, ◌+◌, length, All, option_map, pos};
 ghost use Rattle.hw_port.specs.Kept.{PortKept, ShipKept, StretchKept};
-ghost use Rattle.hw_port_model.specs.Numbers.{hold_of, horizon_of, turnaround_of};
-ghost use Rattle.hw_chart.specs.Courses.{SailsBefore};
-ghost use Rattle.hw_chart_port.specs.Charts.{course_in, slot_in};
+ghost use Rattle.hw_port_model.specs.Numbers.{hold_of, horizon_of};
+ghost use Rattle.hw_chart.specs.Courses.{SailsBefore, slot_in};
+ghost use Rattle.hw_chart_port.specs.Charts.{course_in};
 ghost use Rattle.hw_chart_port.specs.Spans.{course_end, ends_from, slots_with_tugs, last_leave, reach as reach_of, port_picture_span};
 
 use hw_chart::{Course, course_at};
 use hw_chart_flat::Plan;
-use hw_draft::{last_pass, natural};
+use hw_draft::{last_pass, natural, turnaround};
 use hw_model::{MOST_SHIPS, MOST_SLOTS, ShipId, Slot};
 use hw_port::{Port, PortParts, Ship, Stretch};
 
@@ -22,19 +22,6 @@ fn last_leave(sections: usize, channel: &[Stretch]) -> u32
     match channel {
         [] => 0,
         [stretch, more @ ..] => natural(stretch.leave).max(last_leave(sections, more)),
-    }
-}
-
-/// For how many slots a ship's tugs turn round.
-pub fn turnaround(parts: &PortParts, ship: &Ship) -> u32
-    requires { PortKept parts.now }
-    ensures value { result ≡ turnaround_of parts.now ship.now }
-    ensures few { result ≤ 512 }
-{
-    if ship.is_outgoing() {
-        natural(parts.turnaround.outgoing)
-    } else {
-        natural(parts.turnaround.incoming)
     }
 }
 

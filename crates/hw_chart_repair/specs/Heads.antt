@@ -1,8 +1,8 @@
 -- The head of a repair's picture: what a certificate of the repair shows, by the problem's own cargo.
 use Rattle.std.specs.Prelude.{ℕ, List, [], ◌∷◌, ◌++◌, Option, Some, None, codes, decimal, option_map}
+use Rattle.std.specs.List.{concat}
 use Rattle.hw_cert_lines.specs.declared.check.Verdict.{Verdict}
 use Rattle.hw_cert_lines.specs.declared.check.Verdict.TheVariants.{Optimal, Infeasible, Unfinished}
-use Rattle.hw_chart_svg.specs.Joined.{joined}
 use Rattle.hw_chart_svg.specs.Lettering.{line}
 use Rattle.hw_chart_svg.specs.Sheets.{picture_begin}
 use Rattle.hw_chart.specs.Headings.{ground, style}
@@ -28,7 +28,7 @@ own_outcome ships o = record { verdict = own_verdict ships o.verdict; bound = op
 -- how many ships are moved, where there is a timetable
 abbrev pub moved_count_text : Option ℕ → List ℕ
 moved_count_text None = []
-moved_count_text (Some count) = joined (codes ", moved " ∷ decimal count ∷ [])
+moved_count_text (Some count) = concat (codes ", moved " ∷ decimal count ∷ [])
 
 abbrev pub repair_title : CargoUnit → Outcome → Option ℕ → List ℕ
 repair_title unit o count = title_text unit o ++ moved_count_text count
@@ -47,10 +47,10 @@ repair_meaning_text o = repair_meaning_by o.bound o.verdict
 
 -- the title, what it means, and the sizes of the problem
 abbrev pub head_lines : List ℕ → Outcome → List ℕ → List ℕ
-head_lines title o sizes = joined (line (codes "h") 48 36 title ∷ line (codes "m") 48 56 (repair_meaning_text o) ∷ line (codes "m r") 1268 36 sizes ∷ [])
+head_lines title o sizes = concat (line (codes "h") 48 36 title ∷ line (codes "m") 48 56 (repair_meaning_text o) ∷ line (codes "m r") 1268 36 sizes ∷ [])
 
 abbrev pub head_by : List ℕ → Outcome → ℕ → List ℕ → List ℕ
-head_by title o height sizes = joined (picture_begin 1280 height title ∷ style ∷ marks_style ∷ ground height ∷ badge o.verdict ∷ head_lines title o sizes ∷ [])
+head_by title o height sizes = concat (picture_begin 1280 height title ∷ style ∷ marks_style ∷ ground height ∷ badge o.verdict ∷ head_lines title o sizes ∷ [])
 
 unfoldable pub repair_picture_head : CargoUnit → Outcome → Option ℕ → ℕ → List ℕ → List ℕ
 repair_picture_head unit o count height sizes = head_by (repair_title unit o count) o height sizes

@@ -1,7 +1,7 @@
 -- The marks of a ship: its old slot where it is moved, that it has sailed, and the slots that the plan doesn't leave it.
 use Rattle.std.specs.Prelude.{ℕ, ◌+◌, max, min, nat_lt, List, [], ◌∷◌, ◌++◌, Option, Some, None, codes, if◌then◌else◌}
+use Rattle.std.specs.List.{concat}
 use Rattle.hw_model.specs.Problem.{Problem, stays}
-use Rattle.hw_chart_svg.specs.Joined.{joined}
 use Rattle.hw_chart_svg.specs.Shapes.{block, titled}
 use Rattle.hw_chart_svg.specs.Sheets.{svg_end, window_begin}
 use Rattle.hw_chart_svg.specs.declared.area.Area.{Area}
@@ -61,7 +61,7 @@ ghost_marks f None new = []
 ghost_marks f (Some old) new = ghost_block old ++ link f old new
 
 unfoldable pub mark_window : Problem → Spot → Wish → ℕ → List ℕ
-mark_window f s wish slot = joined (window_begin (plot (s.y + 3) 23 s.span 23) ∷ hatched_until (hatch_end wish) ∷ ghost_marks f (ghost_slot f wish slot) slot ∷ svg_end ∷ [])
+mark_window f s wish slot = concat (window_begin (plot (s.y + 3) 23 s.span 23) ∷ hatched_until (hatch_end wish) ∷ ghost_marks f (ghost_slot f wish slot) slot ∷ svg_end ∷ [])
 
 -- ---- beside the ship's name, and a pin over the slot
 

@@ -3,14 +3,13 @@
 ghost use Rattle.std.specs.Prelude.{◌≡◌, ◌≤◌, ◌++◌, option_map};
 ghost use Rattle.hw_desk.specs.Writers.{Puts};
 ghost use Rattle.hw_chart_svg.specs.Pieces.{picture_pieces_text};
-ghost use Rattle.hw_chart.specs.Headings.{ground};
 ghost use Rattle.hw_repair.specs.Repaired.{own_cargo};
 ghost use Rattle.hw_chart_repair.specs.Heads.{head_lines, repair_meaning_text, moved_count_text, own_outcome, own_verdict, repair_picture_head, repair_title};
 
 use crate::sheet::put_marks_style;
 use hw_cert_lines::Verdict;
-use hw_chart::{CargoUnit, Outcome, put_badge, put_style, title};
-use hw_chart_svg::{Area, Piece, put_block, put_line, put_picture_begin};
+use hw_chart::{CargoUnit, Outcome, put_badge, put_ground, put_style, title};
+use hw_chart_svg::{Piece, put_line, put_picture_begin};
 use hw_desk::Writer;
 use hw_model::MOST_SHIPS;
 
@@ -97,19 +96,6 @@ fn meaning(outcome: Outcome) -> &'static [u8]
             b"the certificate has no timetable; it proves that none that meets the plan carries more than the bound"
         }
     }
-}
-
-/// Puts the ground of a picture of this height.
-fn put_ground<W: Writer>(out: &mut W, height: u64)
-    ensures { Puts (ground height) (W.state out.old) (W.state out.new) }
-{
-    let area = Area {
-        left: 0,
-        right: 1280,
-        top: 0,
-        bottom: height,
-    };
-    put_block(out, b"gr", area);
 }
 
 /// Puts the title, what it means, and the sizes of the problem.

@@ -3,7 +3,9 @@
 ghost use Rattle.std.specs.Prelude.{◌≡◌, ◌≤◌, ◌<◌, ◌+◌, IfSome, length, option_map};
 ghost use Rattle.hw_desk.specs.Writers.{Puts};
 ghost use Rattle.hw_model.specs.Problem.{IsTimetable};
-ghost use Rattle.hw_chart_repair.specs.Sheets.{mark_for_wish, marked_end, wish_marks_from, sheet_rank_in, slot_by, slot_in, spot_of};
+ghost use Rattle.hw_chart.specs.Courses.{slot_in};
+ghost use Rattle.hw_chart.specs.Layout.{rank_in};
+ghost use Rattle.hw_chart_repair.specs.Sheets.{mark_for_wish, marked_end, wish_marks_from, slot_by, spot_of};
 
 use crate::mark::{Spot, put_mark};
 use hw_chart::{Scale, rank};
@@ -29,7 +31,7 @@ pub struct Sheet {
 fn rank_of(table: Option<&Timetable>, ship: ShipId) -> u32
     requires listed { IfSome table (λ t. ship < length t.now) }
     requires ship_in { ship < MOST_SHIPS }
-    ensures value { result ≡ sheet_rank_in (option_map (λ t. t.now) table.entry) ship }
+    ensures value { result ≡ rank_in (option_map (λ t. t.now) table.entry) ship }
     ensures few { result ≤ MOST_SHIPS }
 {
     match table {

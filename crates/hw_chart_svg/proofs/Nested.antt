@@ -1,6 +1,7 @@
 -- Elements with words or elements in them, as texts one after another.
-use Rattle.std.proofs.Common.{◌≡◌, ◌++◌, ◌∙◌, ℕ, Bool, true, false, if◌then◌else◌, List, [], ◌∷◌, codes, decimal, refl, ap, sym, append_assoc, append-nil}
-use Rattle.hw_chart_svg.specs.Joined.{joined}
+use Rattle.std.proofs.Common.{◌≡◌, ◌++◌, ◌∙◌, ℕ, Bool, true, false, if◌then◌else◌, List, [], ◌∷◌, codes, decimal, refl, ap, sym, append-nil}
+use Rattle.std.specs.List.{concat}
+use Rattle.std.proofs.lemmas.List.Folds.{concat-append}
 use Rattle.hw_chart_svg.specs.Lettering.{line, text_begin}
 use Rattle.hw_chart_svg.specs.Names.{byte_text, escaped}
 use Rattle.hw_chart_svg.specs.Shapes.{shape_begin}
@@ -8,13 +9,9 @@ use Rattle.hw_chart_svg.specs.Sheets.{picture, size_begin, svg_end, title_end}
 use Rattle.hw_chart_svg.specs.Trees.{Attribute, words, element, no_more, node, attributes_text, nodes_text}
 use Rattle.hw_chart_svg.specs.WellFormed.{attribute, on_a_line, picture_attributes, place_attributes, title_node}
 
-joined-append : (a b : List (List ℕ)) → joined a ++ joined b ≡ joined (a ++ b)
-joined-append [] b = refl
-joined-append (x ∷ a) b = append_assoc x (joined a) (joined b) ∙ ap (λ (l : List ℕ). x ++ l) (joined-append a b)
-
 -- texts among others
-among : (a b c : List (List ℕ)) → joined (a ++ joined b ∷ c) ≡ joined (a ++ (b ++ c))
-among [] b c = joined-append b c
+among : (a b c : List (List ℕ)) → concat (a ++ concat b ∷ c) ≡ concat (a ++ (b ++ c))
+among [] b c = sym (concat-append b c)
 among (x ∷ a) b c = ap (λ (l : List ℕ). x ++ l) (among a b c)
 
 abbrev attribute_pieces : Attribute → List (List ℕ)
@@ -24,13 +21,13 @@ abbrev attributes_pieces : List Attribute → List (List ℕ)
 attributes_pieces [] = []
 attributes_pieces (a ∷ more) = attribute_pieces a ++ attributes_pieces more
 
-attributes_joined : (attributes : List Attribute) → attributes_text attributes ≡ joined (attributes_pieces attributes)
+attributes_joined : (attributes : List Attribute) → attributes_text attributes ≡ concat (attributes_pieces attributes)
 attributes_joined [] = refl
-attributes_joined (a ∷ more) = ap (λ (l : List ℕ). joined (attribute_pieces a) ++ l) (attributes_joined more) ∙ joined-append (attribute_pieces a) (attributes_pieces more)
+attributes_joined (a ∷ more) = ap (λ (l : List ℕ). concat (attribute_pieces a) ++ l) (attributes_joined more) ∙ sym (concat-append (attribute_pieces a) (attributes_pieces more))
 
 -- an element that holds something
 abbrev element_text : List ℕ → List Attribute → List ℕ → List ℕ
-element_text tag attributes inside = joined (codes "<" ∷ tag ∷ attributes_text attributes ∷ codes ">" ∷ inside ∷ codes "</" ∷ tag ∷ codes ">" ∷ [])
+element_text tag attributes inside = concat (codes "<" ∷ tag ∷ attributes_text attributes ∷ codes ">" ∷ inside ∷ codes "</" ∷ tag ∷ codes ">" ∷ [])
 
 abbrev closing : List ℕ → List (List ℕ)
 closing tag = codes "</" ∷ tag ∷ codes ">" ∷ []
@@ -38,17 +35,17 @@ closing tag = codes "</" ∷ tag ∷ codes ">" ∷ []
 abbrev element_pieces : List ℕ → List Attribute → List (List ℕ) → List (List ℕ)
 element_pieces tag attributes inside = codes "<" ∷ tag ∷ (attributes_pieces attributes ++ (codes ">" ∷ (inside ++ closing tag)))
 
-element_joined : (tag : List ℕ) (attributes : List Attribute) (inside : List (List ℕ)) → element_text tag attributes (joined inside) ≡ joined (element_pieces tag attributes inside)
+element_joined : (tag : List ℕ) (attributes : List Attribute) (inside : List (List ℕ)) → element_text tag attributes (concat inside) ≡ concat (element_pieces tag attributes inside)
 element_joined tag attributes inside =
     among (codes "<" ∷ tag ∷ attributes_text attributes ∷ codes ">" ∷ []) inside (closing tag)
-    ∙ ap (λ (l : List ℕ). joined (codes "<" ∷ tag ∷ l ∷ codes ">" ∷ (inside ++ closing tag))) (attributes_joined attributes)
+    ∙ ap (λ (l : List ℕ). concat (codes "<" ∷ tag ∷ l ∷ codes ">" ∷ (inside ++ closing tag))) (attributes_joined attributes)
     ∙ among (codes "<" ∷ tag ∷ []) (attributes_pieces attributes) (codes ">" ∷ (inside ++ closing tag))
 
 -- the same at the end of a line
-on_line : (tag : List ℕ) (attributes : List Attribute) (inside : List (List ℕ)) → element_text tag attributes (joined inside) ++ (codes "\n" ++ []) ≡ joined (element_pieces tag attributes inside ++ (codes "\n" ∷ []))
+on_line : (tag : List ℕ) (attributes : List Attribute) (inside : List (List ℕ)) → element_text tag attributes (concat inside) ++ (codes "\n" ++ []) ≡ concat (element_pieces tag attributes inside ++ (codes "\n" ∷ []))
 on_line tag attributes inside =
     ap (λ (l : List ℕ). l ++ (codes "\n" ++ [])) (element_joined tag attributes inside)
-    ∙ joined-append (element_pieces tag attributes inside) (codes "\n" ∷ [])
+    ∙ sym (concat-append (element_pieces tag attributes inside) (codes "\n" ∷ []))
 
 abbrev title_pieces : List ℕ → List (List ℕ)
 title_pieces title = element_pieces (codes "title") [] (title ∷ [])
@@ -56,10 +53,10 @@ title_pieces title = element_pieces (codes "title") [] (title ∷ [])
 abbrev shape_attributes : List ℕ → List ℕ → List Attribute
 shape_attributes class path = attribute (codes "class") class ∷ attribute (codes "d") path ∷ []
 
-pub titled_nested : (class path title : List ℕ) → joined (shape_begin class ∷ path ∷ codes "\"><title>" ∷ title ∷ codes "</title></path>\n" ∷ []) ≡ element_text (codes "path") (shape_attributes class path) (element_text (codes "title") [] (title ++ []) ++ []) ++ (codes "\n" ++ [])
+pub titled_nested : (class path title : List ℕ) → concat (shape_begin class ∷ path ∷ codes "\"><title>" ∷ title ∷ codes "</title></path>\n" ∷ []) ≡ element_text (codes "path") (shape_attributes class path) (element_text (codes "title") [] (title ++ []) ++ []) ++ (codes "\n" ++ [])
 unfolding shape_begin
 titled_nested class path title =
-    let inside : element_text (codes "title") [] (title ++ []) ++ [] ≡ joined (title_pieces title) = ap (λ (l : List ℕ). l ++ []) (element_joined (codes "title") [] (title ∷ [])) ∙ joined-append (title_pieces title) [] in
+    let inside : element_text (codes "title") [] (title ++ []) ++ [] ≡ concat (title_pieces title) = ap (λ (l : List ℕ). l ++ []) (element_joined (codes "title") [] (title ∷ [])) ∙ sym (concat-append (title_pieces title) [)] in
     let whole = ap (λ (l : List ℕ). element_text (codes "path") (shape_attributes class path) l ++ (codes "\n" ++ [])) inside ∙ on_line (codes "path") (shape_attributes class path) (title_pieces title) in
     among [] (codes "<path class=\"" ∷ class ∷ codes "\" d=\"" ∷ []) (path ∷ codes "\"><title>" ∷ title ∷ codes "</title></path>\n" ∷ []) ∙ sym whole
 
@@ -69,21 +66,21 @@ begin_pieces class x y = codes "<text class=\"" ∷ class ∷ codes "\" x=\"" �
 abbrev end_pieces : List ℕ → List (List ℕ)
 end_pieces name = codes ">" ∷ name ∷ codes "</text>\n" ∷ []
 
-line_nested : (class : List ℕ) (x y : ℕ) (text : List ℕ) → joined (text_begin class x y ∷ codes ">" ∷ text ∷ codes "</text>\n" ∷ []) ≡ element_text (codes "text") (place_attributes class x y) (text ++ []) ++ (codes "\n" ++ [])
+line_nested : (class : List ℕ) (x y : ℕ) (text : List ℕ) → concat (text_begin class x y ∷ codes ">" ∷ text ∷ codes "</text>\n" ∷ []) ≡ element_text (codes "text") (place_attributes class x y) (text ++ []) ++ (codes "\n" ++ [])
 unfolding text_begin
 line_nested class x y text =
     among [] (begin_pieces class x y) (end_pieces text)
     ∙ sym (on_line (codes "text") (place_attributes class x y) (text ∷ []))
 
-shortened_nested : (class : List ℕ) (x y : ℕ) (whole shown : List ℕ) → joined (text_begin class x y ∷ codes "><title>" ∷ whole ∷ codes "</title>" ∷ shown ∷ codes "</text>\n" ∷ []) ≡ element_text (codes "text") (place_attributes class x y) (element_text (codes "title") [] (whole ++ []) ++ (shown ++ [])) ++ (codes "\n" ++ [])
+shortened_nested : (class : List ℕ) (x y : ℕ) (whole shown : List ℕ) → concat (text_begin class x y ∷ codes "><title>" ∷ whole ∷ codes "</title>" ∷ shown ∷ codes "</text>\n" ∷ []) ≡ element_text (codes "text") (place_attributes class x y) (element_text (codes "title") [] (whole ++ []) ++ (shown ++ [])) ++ (codes "\n" ++ [])
 unfolding text_begin
 shortened_nested class x y whole shown =
-    let inside : element_text (codes "title") [] (whole ++ []) ++ (shown ++ []) ≡ joined (title_pieces whole ++ (shown ∷ [])) = ap (λ (l : List ℕ). l ++ (shown ++ [])) (element_joined (codes "title") [] (whole ∷ [])) ∙ joined-append (title_pieces whole) (shown ∷ []) in
+    let inside : element_text (codes "title") [] (whole ++ []) ++ (shown ++ []) ≡ concat (title_pieces whole ++ (shown ∷ [])) = ap (λ (l : List ℕ). l ++ (shown ++ [])) (element_joined (codes "title") [] (whole ∷ [])) ∙ sym (concat-append (title_pieces whole) (shown ∷ [])) in
     let all = ap (λ (l : List ℕ). element_text (codes "text") (place_attributes class x y) l ++ (codes "\n" ++ [])) inside ∙ on_line (codes "text") (place_attributes class x y) (title_pieces whole ++ (shown ∷ [])) in
     among [] (begin_pieces class x y) (codes "><title>" ∷ whole ∷ codes "</title>" ∷ shown ∷ codes "</text>\n" ∷ []) ∙ sym all
 
 -- a name with as much of it as is shown, where that isn't the whole
-pub name_nested : (class : List ℕ) (x y : ℕ) (name shown : List ℕ) (b : Bool) → (if b then joined (text_begin class x y ∷ codes "><title>" ∷ escaped name ∷ codes "</title>" ∷ escaped shown ∷ codes "</text>\n" ∷ []) else line class x y (escaped name)) ≡ nodes_text (on_a_line (element (codes "text") (place_attributes class x y) (if b then node (title_node name) (node (words shown) no_more) else node (words name) no_more)))
+pub name_nested : (class : List ℕ) (x y : ℕ) (name shown : List ℕ) (b : Bool) → (if b then concat (text_begin class x y ∷ codes "><title>" ∷ escaped name ∷ codes "</title>" ∷ escaped shown ∷ codes "</text>\n" ∷ []) else line class x y (escaped name)) ≡ nodes_text (on_a_line (element (codes "text") (place_attributes class x y) (if b then node (title_node name) (node (words shown) no_more) else node (words name) no_more)))
 unfolding byte_text
 name_nested class x y name shown true = shortened_nested class x y (escaped name) (escaped shown)
 name_nested class x y name shown false = line_nested class x y (escaped name)
@@ -99,18 +96,18 @@ abbrev inside_pieces : List ℕ → List ℕ → List (List ℕ)
 inside_pieces title inside = codes "\n" ∷ (title_pieces title ++ (codes "\n" ∷ inside ∷ []))
 
 -- what a picture holds: its title and the rest
-picture_inside : (title inside : List ℕ) → codes "\n" ++ (element_text (codes "title") [] (title ++ []) ++ (codes "\n" ++ inside)) ≡ joined (inside_pieces title inside)
+picture_inside : (title inside : List ℕ) → codes "\n" ++ (element_text (codes "title") [] (title ++ []) ++ (codes "\n" ++ inside)) ≡ concat (inside_pieces title inside)
 picture_inside title inside =
     ap (λ (l : List ℕ). codes "\n" ++ (l ++ (codes "\n" ++ inside))) (element_joined (codes "title") [] (title ∷ []))
-    ∙ ap (λ (l : List ℕ). codes "\n" ++ (joined (title_pieces title) ++ (codes "\n" ++ l))) (sym (append-nil inside))
-    ∙ ap (λ (l : List ℕ). codes "\n" ++ l) (joined-append (title_pieces title) (codes "\n" ∷ inside ∷ []))
+    ∙ ap (λ (l : List ℕ). codes "\n" ++ (concat (title_pieces title) ++ (codes "\n" ++ l))) (sym (append-nil inside))
+    ∙ ap (λ (l : List ℕ). codes "\n" ++ l) (sym (concat-append (title_pieces title) (codes "\n" ∷ inside ∷ [])))
 
-picture_whole : (width height : ℕ) (title inside : List ℕ) → element_text (codes "svg") (picture_attributes width height title) (codes "\n" ++ (element_text (codes "title") [] (title ++ []) ++ (codes "\n" ++ inside))) ++ (codes "\n" ++ []) ≡ joined (element_pieces (codes "svg") (attributes_with width height title (joined (view_pieces width height))) (inside_pieces title inside) ++ (codes "\n" ∷ []))
+picture_whole : (width height : ℕ) (title inside : List ℕ) → element_text (codes "svg") (picture_attributes width height title) (codes "\n" ++ (element_text (codes "title") [] (title ++ []) ++ (codes "\n" ++ inside))) ++ (codes "\n" ++ []) ≡ concat (element_pieces (codes "svg") (attributes_with width height title (concat (view_pieces width height))) (inside_pieces title inside) ++ (codes "\n" ∷ []))
 picture_whole width height title inside =
-    let view : codes "0 0 " ++ (decimal width ++ (codes " " ++ decimal height)) ≡ joined (view_pieces width height) = ap (λ (l : List ℕ). codes "0 0 " ++ (decimal width ++ (codes " " ++ l))) (sym (append-nil (decimal height))) in
+    let view : codes "0 0 " ++ (decimal width ++ (codes " " ++ decimal height)) ≡ concat (view_pieces width height) = ap (λ (l : List ℕ). codes "0 0 " ++ (decimal width ++ (codes " " ++ l))) (sym (append-nil (decimal height))) in
     ap (λ (v : List ℕ). element_text (codes "svg") (attributes_with width height title v) (codes "\n" ++ (element_text (codes "title") [] (title ++ []) ++ (codes "\n" ++ inside))) ++ (codes "\n" ++ [])) view
-    ∙ ap (λ (l : List ℕ). element_text (codes "svg") (attributes_with width height title (joined (view_pieces width height))) l ++ (codes "\n" ++ [])) (picture_inside title inside)
-    ∙ on_line (codes "svg") (attributes_with width height title (joined (view_pieces width height))) (inside_pieces title inside)
+    ∙ ap (λ (l : List ℕ). element_text (codes "svg") (attributes_with width height title (concat (view_pieces width height))) l ++ (codes "\n" ++ [])) (picture_inside title inside)
+    ∙ on_line (codes "svg") (attributes_with width height title (concat (view_pieces width height))) (inside_pieces title inside)
 
 pub picture_nested : (width height : ℕ) (title inside : List ℕ) → picture width height title inside ≡ element_text (codes "svg") (picture_attributes width height title) (codes "\n" ++ (element_text (codes "title") [] (title ++ []) ++ (codes "\n" ++ inside))) ++ (codes "\n" ++ [])
 unfolding size_begin

@@ -1,10 +1,9 @@
 -- How much of a name is shown, and that the whole of it reads back.
 use Rattle.std.proofs.Common.{◌≡◌, ◌≤◌, ◌<◌, ◌+◌, ◌-◌, ◌++◌, ◌∙◌, ℕ, zero, suc, Bool, true, false, nat_eq, nat_lt, if◌then◌else◌, List, [], ◌∷◌, codes, drop, get_or, length, take, refl, ap, sym, arith, append_assoc}
-use Rattle.std.specs.List.{list_all}
+use Rattle.std.specs.List.{list_all, concat}
 use Rattle.std.proofs.lemmas.Bool.{both_ways, and_parts, cond_both}
 use Rattle.std.proofs.lemmas.List.{append_cancel_left}
 use Rattle.std.proofs.lemmas.List.Sums.{sum_by-cons}
-use Rattle.hw_chart_svg.specs.Joined.{joined}
 use Rattle.hw_chart_svg.specs.Lettering.{line, text_begin}
 use Rattle.hw_chart_svg.specs.Marks.{is_word}
 use Rattle.hw_chart_svg.specs.Names.{byte_text, escaped}
@@ -59,7 +58,7 @@ parted_words (c ∷ a) (d ∷ b) r s p q e =
     (rw (same, rest.0) refl, rest.1)
 
 abbrev either_line : Bool → List ℕ → ℕ → ℕ → List ℕ → List ℕ → List ℕ
-either_line b class x y name shown = if b then joined (text_begin class x y ∷ codes "><title>" ∷ escaped name ∷ codes "</title>" ∷ escaped shown ∷ codes "</text>\n" ∷ []) else line class x y (escaped name)
+either_line b class x y name shown = if b then concat (text_begin class x y ∷ codes "><title>" ∷ escaped name ∷ codes "</title>" ∷ escaped shown ∷ codes "</text>\n" ∷ []) else line class x y (escaped name)
 
 -- a title and the letters of a name begin differently
 differ : (name r s : List ℕ) → 60 ∷ (116 ∷ r) ≡ escaped name ++ 60 ∷ (47 ∷ s) → ⊥

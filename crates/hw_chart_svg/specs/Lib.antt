@@ -1,4 +1,3 @@
-pub mod Joined
 pub mod Names
 pub mod Widths
 pub mod Shortened

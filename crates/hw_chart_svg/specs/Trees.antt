@@ -1,6 +1,6 @@
 -- Trees of elements, and their text: what is built of these is well-formed, whatever the words are.
 use Rattle.std.specs.Prelude.{ℕ, List, [], ◌∷◌, ◌++◌, codes}
-use Rattle.hw_chart_svg.specs.Joined.{joined}
+use Rattle.std.specs.List.{concat}
 use Rattle.hw_chart_svg.specs.Names.{escaped}
 
 -- the name of an attribute, and its value, in which no mark stands
@@ -19,13 +19,13 @@ mutual
 
 abbrev pub attributes_text : List Attribute → List ℕ
 attributes_text [] = []
-attributes_text (a ∷ more) = joined (codes " " ∷ a.name ∷ codes "=\"" ∷ a.value ∷ codes "\"" ∷ []) ++ attributes_text more
+attributes_text (a ∷ more) = concat (codes " " ∷ a.name ∷ codes "=\"" ∷ a.value ∷ codes "\"" ∷ []) ++ attributes_text more
 
 abbrev mutual
   pub node_text : Node → List ℕ
   node_text (words text) = escaped text
-  node_text (element tag attributes no_more) = joined (codes "<" ∷ tag ∷ attributes_text attributes ∷ codes "/>" ∷ [])
-  node_text (element tag attributes (node first more)) = joined (codes "<" ∷ tag ∷ attributes_text attributes ∷ codes ">" ∷ nodes_text (node first more) ∷ codes "</" ∷ tag ∷ codes ">" ∷ [])
+  node_text (element tag attributes no_more) = concat (codes "<" ∷ tag ∷ attributes_text attributes ∷ codes "/>" ∷ [])
+  node_text (element tag attributes (node first more)) = concat (codes "<" ∷ tag ∷ attributes_text attributes ∷ codes ">" ∷ nodes_text (node first more) ∷ codes "</" ∷ tag ∷ codes ">" ∷ [])
 
   pub nodes_text : Nodes → List ℕ
   nodes_text no_more = []

@@ -1,7 +1,7 @@
 -- The times and heights of high and low waters, where there is room for them on the plot.
 use Rattle.std.specs.Prelude.{ℕ, ◌+◌, ◌-◌, ◌*◌, ◌/◌, max, min, Bool, nat_le, List, [], ◌∷◌, ◌++◌, codes, Option, Some, None, if◌then◌else◌}
 use Rattle.std.specs.Int.{div_ceil}
-use Rattle.hw_chart_svg.specs.Joined.{joined}
+use Rattle.std.specs.List.{concat}
 use Rattle.hw_chart_svg.specs.Lettering.{line}
 use Rattle.hw_chart_svg.specs.Numbers.{clock, height_text}
 use Rattle.hw_chart_svg.specs.Widths.{small_width}
@@ -18,7 +18,7 @@ stand_time c s = (s.first + s.end - 1) * c.minutes / 2 + c.midnight
 
 -- the time and the height
 unfoldable pub water_words : ℕ → List ℕ → List ℕ
-water_words time height = joined (clock time ∷ codes " " ∷ height ∷ [])
+water_words time height = concat (clock time ∷ codes " " ∷ height ∷ [])
 
 abbrev pub stand_text : ColumnParts → Stand → List ℕ
 stand_text c s = water_words (stand_time c s) (height_text (column_height c s.first))

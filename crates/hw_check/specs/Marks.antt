@@ -1,17 +1,13 @@
 -- Marks on the numbers that later lines name, and the deletions that are due.
-use Rattle.std.specs.Prelude.{◌≡◌, ℕ, ◌<◌, ◌==◌, Bool, false, List, ◌++◌, length, slice_index_or}
+use Rattle.std.specs.Prelude.{◌≡◌, ℕ, ◌<◌, ◌==◌, Bool, List, ◌++◌, length}
 use Rattle.std.specs.List.{list_any}
 use Rattle.hw_cert_lines.specs.declared.line.Line.{Line}
 use Rattle.hw_cert_lines.specs.Lines.{clause_of}
-use Rattle.hw_cert_laws.specs.Renewing.{deletions, is_hint_of, undeleting}
+use Rattle.hw_cert_laws.specs.Renewing.{deletions, is_hint_of, undeleting, is_marked}
 
 -- whether this number is one of these
 abbrev pub is_among_numbers : ℕ → List ℕ → Bool
 is_among_numbers id ids = list_any (λ other. other == id) ids
-
--- whether this number is marked
-abbrev pub is_marked : List Bool → ℕ → Bool
-is_marked marked id = slice_index_or marked id false
 
 -- exactly the numbers that one of these lines has as a hint are marked, of those that have a place for a mark
 abbrev pub Marks : List Bool → List Line → Type 0

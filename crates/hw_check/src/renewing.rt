@@ -7,7 +7,8 @@ ghost use Rattle.std.specs.List.Sorted.{IsStrictlyIncreasing};
 ghost use Rattle.hw_cert_lines.specs.declared.line.Line.{Line};
 ghost use Rattle.hw_cert_lines.specs.Lines as counting;
 ghost use Rattle.hw_cert_laws.specs.Renewing as renewal;
-ghost use Rattle.hw_check.specs.Marks.{Marks, is_among_numbers, is_marked, due_after, renewed_line};
+ghost use Rattle.hw_check.specs.Marks.{Marks, is_among_numbers, due_after, renewed_line};
+ghost use Rattle.hw_cert_laws.specs.Renewing.{is_marked};
 
 use crate::refusing::clause_of;
 use hw_cert_lines::{Hints, Line};

@@ -12,7 +12,8 @@ use Rattle.hw_model.specs.Limits.{IsFlat}
 use Rattle.hw_model.specs.Timetables.{Permits, NonePermitted}
 use Rattle.hw_rules.specs.Outcomes.{SomePermitted}
 use Rattle.hw_clash.specs.Wished.{Wished, wished_count, wished_holds, NoneWished}
-use Rattle.hw_clash.specs.Parts.{has, part}
+use Rattle.hw_clash.specs.Parts.{part}
+use Rattle.hw_lemmas.specs.Lists.{has}
 use Rattle.hw_clash.specs.Clashing.{all_restriction_numbers, without_number, Tries, IsLeft}
 use Rattle.hw_clash.specs.Laws.{ClashMeans, OneClash}
 use Rattle.hw_clash.proofs.Lists.{has_all, all_has, of_without, Within, without_within}

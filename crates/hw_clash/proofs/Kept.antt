@@ -3,7 +3,8 @@ use Rattle.std.proofs.Common.{◌≡◌, ℕ, zero, suc, ◌+◌, ◌-◌, ◌<�
 use Rattle.std.proofs.lemmas.Option.{same_Some}
 use Rattle.std.specs.List.{range_with_len, cons_option}
 use Rattle.hw_model.specs.declared.rule.Rule.{Rule}
-use Rattle.hw_clash.specs.Parts.{has, rules_in, rule_numbers}
+use Rattle.hw_clash.specs.Parts.{rules_in, rule_numbers}
+use Rattle.hw_lemmas.specs.Lists.{has}
 use Rattle.hw_clash.specs.Laws.{PartRules}
 use Rattle.hw_clash.proofs.Lists.{Each}
 

@@ -6,7 +6,7 @@ use Rattle.std.proofs.lemmas.List.Kept.{AllPairs-from_increasing}
 use Rattle.std.proofs.lemmas.List.Sorted.{searched}
 use Rattle.std.specs.List.Sorted.{IsStrictlyIncreasing, IsBinarySearchResult}
 use Rattle.std.specs.Ordering.{nat_cmp}
-use Rattle.hw_clash.specs.Parts.{has}
+use Rattle.hw_lemmas.specs.Lists.{has}
 use Rattle.hw_clash.specs.Clashing.{without_number}
 
 -- ---- numbers of a list

@@ -10,7 +10,8 @@ use Rattle.hw_model.specs.Problem.{Problem, IsTimetable, value_at, horizon}
 use Rattle.hw_model.specs.Limits.{IsFlat, RuleFits, StepsSail}
 use Rattle.hw_model.specs.Rules.{rule_holds}
 use Rattle.hw_model.specs.Timetables.{Permits, plus, cargo_from, holds_at, restriction_holds, restriction_count}
-use Rattle.hw_clash.specs.Parts.{has, is_window_closed, is_refused, part_value, part, rules_in, Meets}
+use Rattle.hw_clash.specs.Parts.{is_window_closed, is_refused, part_value, part, rules_in, Meets}
+use Rattle.hw_lemmas.specs.Lists.{has}
 use Rattle.hw_repair.specs.declared.plan.Wish.{Wish}
 use Rattle.hw_clash.specs.Wished.{Wished, is_granted, wished_count, wish_holds, wished_holds, PermitsWished}
 use Rattle.hw_clash.specs.Clashing.{all_restriction_numbers}

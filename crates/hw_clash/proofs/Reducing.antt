@@ -15,7 +15,8 @@ use Rattle.hw_model.specs.Limits.{IsFlat}
 use Rattle.hw_model.specs.Timetables.{Permits, NonePermitted}
 use Rattle.hw_clash.specs.Asking.{FitsAt, NoneAt, SpentAt}
 use Rattle.hw_clash.specs.Wished.{Wished, wished_count, NoneWished}
-use Rattle.hw_clash.specs.Parts.{has, part}
+use Rattle.hw_clash.specs.Parts.{part}
+use Rattle.hw_lemmas.specs.Lists.{has}
 use Rattle.hw_clash.specs.Clashing.{all_restriction_numbers, without_number, IsLeft, IsClash}
 use Rattle.hw_clash.specs.Outcomes.{Asks, IsClashFound, IsMet, MayAsk, IsSpentAt}
 use Rattle.hw_clash.proofs.Lists.{all_has, of_without, without_within}

@@ -6,9 +6,9 @@ use Rattle.std.proofs.lemmas.List.Elements.{All-nil, All-cons, All-head, All-wea
 use Rattle.std.specs.List.Sorted.{IsStrictlyIncreasing}
 use Rattle.std.specs.Str.Parse.{digits_value}
 use Rattle.hw_lemmas.specs.Operators.{◌>>=◌}
-use Rattle.hw_plan_texts.specs.Slots.{put_value_first, slot_form, slots_form}
+use Rattle.hw_plan_texts.specs.Slots.{slot_form, slots_form}
 use Rattle.hw_text.specs.Numbers.{is_number, number_up_to, number_from_to}
-use Rattle.hw_text.specs.Parts.{words_of}
+use Rattle.hw_text.specs.Parts.{words_of, put_first}
 use Rattle.hw_model.specs.Problem.{IsTimetable}
 use Rattle.hw_model.specs.Timetables.{Permits, first_broken}
 use Rattle.hw_model_laws.proofs.Broken.{permits_from}
@@ -48,7 +48,7 @@ rising n (m ∷ ids) above increasing (suc k) lt =
     let next : suc k + 1 ≡ suc (k + 1) = omega arith in
     subst (λ i. get_or (m ∷ ids) k 0 < get_or (n ∷ m ∷ ids) i 0) (sym next) (increasing k (omega (arith, lt)))
 
-pub put_some : (n : ℕ) (more : Option (List ℕ)) (ids : List ℕ) → put_value_first (Some n) more ≡ Some ids → (rest : List ℕ) × (more ≡ Some rest) × (n ∷ rest ≡ ids)
+pub put_some : (n : ℕ) (more : Option (List ℕ)) (ids : List ℕ) → put_first (Some n) more ≡ Some ids → (rest : List ℕ) × (more ≡ Some rest) × (n ∷ rest ≡ ids)
 put_some n None ids e = absurd cc
 put_some n (Some rest) ids e = (rest, refl, same_Some (n ∷ rest) ids e)
 
@@ -56,7 +56,7 @@ pub ids_read : (least many : ℕ) (words : List (List ℕ)) (ids : List ℕ) →
 ids_read least many [] ids some e =
     let none : [] ≡ ids = same_Some [] ids e in
     (subst (IdsFrom least many) none (record { above = All-nil (λ n. least ≤ n); below = All-nil (λ n. n < many); ascending = λ k lt. absurd (omega (arith, lt)) }), ap length (sym none))
-ids_read least many (word ∷ words) ids some e = option_and_then_some (λ id. put_value_first (Some id) (ids_from (id + 1) many words)) (number_from_to least (many - 1) word) ids e (λ n from kept.
+ids_read least many (word ∷ words) ids some e = option_and_then_some (λ id. put_first (Some id) (ids_from (id + 1) many words)) (number_from_to least (many - 1) word) ids e (λ n from kept.
     let range = in_range least many word n some from in
     let put = put_some n (ids_from (n + 1) many words) ids kept in
     let rest = ids_read (n + 1) many words put.0 some put.1 in
@@ -107,7 +107,7 @@ keep_read f parts read some e =
 
 -- ---- timetables
 
-pub put_parts : (o : Option ℕ) (more : Option (List ℕ)) (list : List ℕ) → put_value_first o more ≡ Some list → (n : ℕ) × (rest : List ℕ) × (o ≡ Some n) × (more ≡ Some rest) × (n ∷ rest ≡ list)
+pub put_parts : (o : Option ℕ) (more : Option (List ℕ)) (list : List ℕ) → put_first o more ≡ Some list → (n : ℕ) × (rest : List ℕ) × (o ≡ Some n) × (more ≡ Some rest) × (n ∷ rest ≡ list)
 put_parts None more list e = absurd cc
 put_parts (Some n) None list e = absurd cc
 put_parts (Some n) (Some rest) list e = (n, rest, refl, refl, same_Some (n ∷ rest) list e)

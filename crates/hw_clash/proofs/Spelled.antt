@@ -5,9 +5,9 @@ use Rattle.std.proofs.lemmas.List.Elements.{All-head, All-tail, All-weaker}
 use Rattle.std.proofs.lemmas.Option.{same_Some, option_and_then_some}
 use Rattle.hw_lemmas.specs.Operators.{◌>>=◌}
 use Rattle.hw_model_laws.proofs.Horizon.{few_slots}
-use Rattle.hw_plan_texts.specs.Slots.{put_value_first, slot_form, slots_form}
+use Rattle.hw_plan_texts.specs.Slots.{slot_form, slots_form}
 use Rattle.hw_text.specs.Numbers.{number_from_to}
-use Rattle.hw_text.specs.Parts.{parts_of, words_of, first_part, at_end}
+use Rattle.hw_text.specs.Parts.{parts_of, words_of, first_part, at_end, put_first}
 use Rattle.hw_text.proofs.Joins.{is_ended_lines}
 use Rattle.hw_text.proofs.Signs.{from_to_is}
 use Rattle.hw_text.proofs.Spelled.{is_spelled}
@@ -31,7 +31,7 @@ Parts = List (List ℕ)
 
 ids_spelled : (least many : ℕ) (words : Parts) (ids : List ℕ) → many ≤ 4_080 → ids_from least many words ≡ Some ids → words ≡ map decimal ids
 ids_spelled least many [] ids few e = ap (map decimal) (same_Some [] ids e)
-ids_spelled least many (word ∷ words) ids few e = option_and_then_some (λ id. put_value_first (Some id) (ids_from (id + 1) many words)) (number_from_to least (many - 1) word) ids e (λ n from kept.
+ids_spelled least many (word ∷ words) ids few e = option_and_then_some (λ id. put_first (Some id) (ids_from (id + 1) many words)) (number_from_to least (many - 1) word) ids e (λ n from kept.
     let put = put_some n (ids_from (n + 1) many words) ids kept in
     let one = from_to_is least (many - 1) word n (omega (arith, few)) from in
     ap₂ ◌∷◌ one.0 (ids_spelled (n + 1) many words put.0 few put.1) ∙ ap (map decimal) put.2)

@@ -10,21 +10,21 @@ use Rattle.hw_cert_lines.specs.Lines.{last_table, is_closed}
 use Rattle.hw_cert_lines.specs.Valid.{verdict}
 use Rattle.hw_clash.specs.declared.asking.Asked.{Asked}
 use Rattle.hw_clash.specs.declared.asking.Asked.TheVariants.{Fits, NoneFits, Spent, NoMemory}
-use Rattle.hw_clash.specs.Outcomes.{IsProof}
+use Rattle.hw_search.specs.Going.{WellWritten}
 
 pub record FitsAt (g : Problem) (table : List ℕ) (all : List Line) : Type 0 where
   pub permitted : Permits g table
-  pub proof : IsProof g all
+  pub proof : WellWritten g all
   pub last : last_table all ≡ Some table
   pub shown : (c : ℕ) × (cargo g table ≡ Some c) × (verdict g all ≡ Optimal c)
 
 pub record NoneAt (g : Problem) (all : List Line) : Type 0 where
   pub none : NonePermitted g
-  pub proof : IsProof g all
+  pub proof : WellWritten g all
   pub shown : verdict g all ≡ Infeasible
 
 pub record SpentAt (g : Problem) (budget : ℕ) (all : List Line) : Type 0 where
-  pub proof : IsProof g all
+  pub proof : WellWritten g all
   pub lemmas : length (lemmas_of all) ≡ budget
   pub unclosed : is_closed all ≡ false
   pub few : budget ≤ room_count g

@@ -1,28 +1,17 @@
 -- The outcome of the search for a clash.
-use Rattle.std.specs.Prelude.{◌≡◌, ℕ, zero, suc, ◌≤◌, true, false, List, Some, All, length, ⊤}
-use Rattle.hw_model.specs.Problem.{Problem}
+use Rattle.std.specs.Prelude.{◌≡◌, ℕ, zero, suc, ◌≤◌, false, List, Some, length, ⊤}
 use Rattle.hw_model.specs.Rooms.{room_count}
 use Rattle.hw_cert_lines.specs.declared.check.Verdict.TheVariants.{Optimal, Infeasible}
 use Rattle.hw_cert_lines.specs.declared.line.Line.{Line}
-use Rattle.hw_cert_lines.specs.Lemmas.{lemmas_of, IsNew, IsLean}
-use Rattle.hw_cert_lines.specs.Tolled.{is_plain}
+use Rattle.hw_cert_lines.specs.Lemmas.{lemmas_of}
 use Rattle.hw_cert_lines.specs.Lines.{last_table, is_closed}
-use Rattle.hw_cert_lines.specs.Valid.{LineFits, Valid, verdict}
-use Rattle.hw_search_laws.specs.Living.{FewLiveThroughout}
+use Rattle.hw_cert_lines.specs.Valid.{verdict}
 use Rattle.hw_clash.specs.declared.clashing.Clashed.{Clashed}
 use Rattle.hw_clash.specs.declared.clashing.Clashed.TheVariants.{Clash, Met, Spent, NoMemory}
 use Rattle.hw_clash.specs.Parts.{part}
 use Rattle.hw_clash.specs.Wished.{Wished, wished_count, PermitsWished, NoneWished}
 use Rattle.hw_clash.specs.Clashing.{all_restriction_numbers, without_number, IsLeft, IsClash, IsIrreducible, AreDrops}
-
--- plain lines of a problem, each valid and lean after those before it, no lemma useless, and few clauses live at any time
-pub record IsProof (f : Problem) (all : List Line) : Type 0 where
-  pub plain : All (λ line. is_plain line ≡ true) all
-  pub fit : All (LineFits f) all
-  pub valid : Valid f all
-  pub lean : IsLean f all
-  pub new : IsNew f all
-  pub few_live : FewLiveThroughout f all
+use Rattle.hw_search.specs.Going.{WellWritten}
 
 -- the list that a step asks about: all numbers first, and then for each number what is left without it
 abbrev pub Asks : Wished → ℕ → List ℕ → Type 0
@@ -35,13 +24,13 @@ pub record IsClashFound (f : Wished) (kept : List ℕ) (drops : List (List ℕ))
   pub clash : IsClash f kept
   pub irreducible : IsIrreducible f kept
   pub met : AreDrops f kept drops
-  pub proof : IsProof (part f kept) all
+  pub proof : WellWritten (part f kept) all
   pub shown : verdict (part f kept) all ≡ Infeasible
 
 -- a permitted timetable that meets all wishes, the last one of a certificate of the part of all restrictions
 pub record IsMet (f : Wished) (table : List ℕ) (all : List Line) : Type 0 where
   pub permitted : PermitsWished f table
-  pub proof : IsProof (part f (all_restriction_numbers f)) all
+  pub proof : WellWritten (part f (all_restriction_numbers f)) all
   pub shown : verdict (part f (all_restriction_numbers f)) all ≡ Optimal 0
   pub last : last_table all ≡ Some table
 
@@ -56,7 +45,7 @@ pub record IsSpentAt (f : Wished) (budget step : ℕ) (all : List Line) : Type 0
   pub later : MayAsk f step
   pub asked : List ℕ
   pub asks : Asks f step asked
-  pub proof : IsProof (part f asked) all
+  pub proof : WellWritten (part f asked) all
   pub lemmas : length (lemmas_of all) ≡ budget
   pub unclosed : is_closed all ≡ false
   pub few : budget ≤ room_count f.problem

@@ -1,15 +1,12 @@
 -- Parts of a problem with wishes: those of its restrictions whose numbers are in a list, and no cargo.
-use Rattle.std.specs.Prelude.{◌==◌, ℕ, ◌+◌, ◌&&◌, ◌||◌, Bool, not, if◌then◌else◌, List, [], ◌∷◌, Option, Some, None, is_none, All, IsTrue, filter, length, slice_get}
-use Rattle.std.specs.List.{list_any, range_with_len}
+use Rattle.std.specs.Prelude.{ℕ, ◌+◌, ◌&&◌, ◌||◌, Bool, not, if◌then◌else◌, List, [], ◌∷◌, Option, Some, None, is_none, All, IsTrue, filter, length, slice_get}
+use Rattle.std.specs.List.{range_with_len}
 use Rattle.hw_model.specs.declared.rule.Rule.{Rule}
 use Rattle.hw_model.specs.Problem.{Problem, IsTimetable, value_at}
 use Rattle.hw_model.specs.Timetables.{restriction_count}
 use Rattle.hw_plan_texts.specs.Grids.{grid_of_values}
 use Rattle.hw_clash.specs.Wished.{Wished, is_granted, wished_holds}
-
--- the number is one of the list
-abbrev pub has : List ℕ → ℕ → Bool
-has kept n = list_any (λ m. m == n) kept
+use Rattle.hw_lemmas.specs.Lists.{has}
 
 -- the ship's window is kept, and the problem has no value there
 abbrev pub is_window_closed : Wished → List ℕ → ℕ → ℕ → Bool

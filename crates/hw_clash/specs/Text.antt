@@ -3,9 +3,9 @@ use Rattle.std.specs.Prelude.{ℕ, ◌+◌, ◌-◌, List, [], ◌∷◌, Option
 use Rattle.hw_lemmas.specs.Operators.{◌>>=◌}
 use Rattle.hw_model.specs.Timetables.{first_broken}
 use Rattle.hw_plan_texts.specs.Reading.{MalformedLine, malformed_line, formed_line, formed_line_at, only_at, ended_at}
-use Rattle.hw_plan_texts.specs.Slots.{slots_form, put_value_first}
+use Rattle.hw_plan_texts.specs.Slots.{slots_form}
 use Rattle.hw_text.specs.Numbers.{number_from_to}
-use Rattle.hw_text.specs.Parts.{parts_of, words_of}
+use Rattle.hw_text.specs.Parts.{parts_of, words_of, put_first}
 use Rattle.hw_clash.specs.declared.fault.ClashWord.{ClashWord}
 use Rattle.hw_clash.specs.declared.fault.ClashWord.TheVariants as words
 use Rattle.hw_clash.specs.Clashes.{Clash}
@@ -18,7 +18,7 @@ use Rattle.hw_clash.specs.Wished.{Wished, wished_count}
 -- numbers below this many, ascending, the first not below the least
 abbrev pub ids_from : ℕ → ℕ → List (List ℕ) → Option (List ℕ)
 ids_from least many [] = Some []
-ids_from least many (word ∷ words) = option_and_then (λ id. put_value_first (Some id) (ids_from (id + 1) many words)) (number_from_to least (many - 1) word)
+ids_from least many (word ∷ words) = option_and_then (λ id. put_first (Some id) (ids_from (id + 1) many words)) (number_from_to least (many - 1) word)
 
 abbrev pub some_ids : ℕ → List (List ℕ) → Option (List ℕ)
 some_ids many [] = None

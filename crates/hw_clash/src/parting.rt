@@ -3,7 +3,8 @@
 ghost use Rattle.std.specs.Prelude.{◌≡◌, ◌<◌, ◌≤◌, ◌++◌, ◌&&◌, ◌||◌, IfOk, OnOk, All, length, is_none, if◌then◌else◌, Some, None};
 ghost use Rattle.std.specs.List.Sorted.{IsStrictlyIncreasing};
 ghost use Rattle.hw_plan_texts.specs.Grids.{row_of, grid_of_values};
-ghost use Rattle.hw_clash.specs.Parts.{has, part_value, rules_in, part};
+ghost use Rattle.hw_clash.specs.Parts.{part_value, rules_in, part};
+ghost use Rattle.hw_lemmas.specs.Lists.{has};
 ghost use Rattle.hw_clash.specs.Wished.{wished_count};
 
 use crate::wished::{WishedFlat, is_refused};

@@ -25,7 +25,8 @@ use Rattle.hw_command_clash.specs.Texts.{report_of_part}
 use Rattle.hw_command_clash.specs.declared.checking.CheckedClash.{CheckedClash}
 use Rattle.hw_command_clash.proofs.Checked.{says}
 use Rattle.hw_command_chart.specs.ClashCharts.{ChartsClash, clash_chart_task, clash_drawn}
-use Rattle.hw_command_chart.specs.ClashDrawing.{AreLines, EndsUnlessMemory, HasColumns, clash_chart_report}
+use Rattle.hw_command_chart.specs.ClashDrawing.{AreLines, HasColumns, clash_chart_report}
+use Rattle.hw_command_chart.specs.Drawing.{EndsUnlessMemory}
 
 -- ---- what is drawn
 

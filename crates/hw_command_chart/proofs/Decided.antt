@@ -27,7 +27,8 @@ use Rattle.hw_subject.specs.Shown.{Refused, Shown}
 use Rattle.hw_subject.proofs.Decided.{one_of, subjects_decided_law, told_bytes}
 use Rattle.hw_command_chart.specs.Charts.{Draws, Charts, picture_of}
 use Rattle.hw_command_chart.specs.Laws.{OneChart, TextsDecideChart}
-use Rattle.hw_command_chart.specs.Texts.{cert_table, outcome_chart, judged_chart, cert_chart, read_chart, texts_chart}
+use Rattle.hw_command_chart.specs.Texts.{outcome_chart, judged_chart, cert_chart, read_chart, texts_chart}
+use Rattle.hw_subject.specs.Texts.{cert_table}
 
 -- ---- by what is read of the inputs
 

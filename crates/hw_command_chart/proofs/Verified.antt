@@ -10,13 +10,13 @@ use Rattle.hw_command.specs.declared.outcome.CertOutcome.TheVariants.{Shows, Wro
 use Rattle.hw_subject.specs.Meanings.{judged}
 use Rattle.hw_subject.specs.Subjects.{Subject, Topic, topic_subject}
 use Rattle.hw_subject.specs.Decided.{DecidedBy, IsDecided, NamesThird}
-use Rattle.hw_subject.specs.Texts.{cert_bound}
+use Rattle.hw_subject.specs.Texts.{cert_bound, cert_table}
 use Rattle.hw_subject.proofs.Certless.{certless}
 use Rattle.hw_subject.proofs.Decided.{subjects_decided_law, told_bytes}
 use Rattle.hw_subject.proofs.Reports.{certificates_decide_law, verified_of}
 use Rattle.hw_subject.proofs.SameLines.{stream_same}
 use Rattle.hw_command_chart.specs.Laws.{ChartsAsChecked, ChartsAsVerified, IsChartOf}
-use Rattle.hw_command_chart.specs.Texts.{cert_table, cert_chart, outcome_chart}
+use Rattle.hw_command_chart.specs.Texts.{cert_chart, outcome_chart}
 use Rattle.hw_command_chart.proofs.Decided.{DrawnBy, decided}
 
 -- a refusal is reported as it is

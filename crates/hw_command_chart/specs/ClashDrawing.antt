@@ -1,12 +1,9 @@
--- How a run ends that draws a clash.
-use Rattle.std.specs.Prelude.{◌≡◌, ◌<◌, ◌⊎◌, ℕ, List, [], ◌∷◌, All, length, ⊤}
-use Rattle.hw_desk.specs.State.{DeskState}
+-- What a run reports that draws a clash.
+use Rattle.std.specs.Prelude.{◌≡◌, ◌<◌, ℕ, List, All, length, ⊤}
 use Rattle.hw_cert_lines.specs.declared.check.Verdict.TheVariants.{Infeasible}
-use Rattle.hw_report.specs.Reports.{Report, Naming, by_number, by_name, no_memory, picture}
-use Rattle.hw_command.specs.Ends.{Ends}
+use Rattle.hw_report.specs.Reports.{Report, Naming, by_number, by_name, picture}
 use Rattle.hw_command.specs.declared.outcome.CertOutcome.{CertOutcome}
 use Rattle.hw_command.specs.declared.outcome.CertOutcome.TheVariants.{Shows}
-use Rattle.hw_command.specs.declared.status.Status.{Status}
 use Rattle.hw_clash.specs.Clashes.{Clash}
 use Rattle.hw_port_named.specs.Restrictions.{named_restrictions}
 use Rattle.hw_command_clash.specs.Texts.{report_of_part}
@@ -26,7 +23,3 @@ HasColumns (by_name p h) = h.columns ≡ length p.waypoints
 abbrev pub clash_chart_report : Naming → Clash → CertOutcome → Report
 clash_chart_report names clash (Shows Infeasible) = picture Infeasible (clash_drawn names clash)
 clash_chart_report names clash outcome = report_of_part outcome
-
--- a run ends with this report, or memory ran out before any of it was sent
-abbrev pub EndsUnlessMemory : Report → DeskState → DeskState → Status → Type 0
-EndsUnlessMemory r old new s = Ends (r ∷ []) old new s ⊎ Ends (no_memory ∷ []) old new s

@@ -1,11 +1,9 @@
 -- The picture of a certificate, or why nothing is drawn, by the bytes alone.
 use Rattle.std.specs.Prelude.{ℕ, List, Option, None, Result, Ok, Err, length, nat_lt, if◌then◌else◌}
-use Rattle.hw_model.specs.Problem.{Problem, shape_of}
+use Rattle.hw_model.specs.Problem.{Problem}
 use Rattle.hw_desk.specs.declared.desk.Feed.TheVariants.{Flat, Certificate}
 use Rattle.hw_flat.specs.Text.{Fault, flat_text}
-use Rattle.hw_cert_lines.specs.Lines.{last_table}
 use Rattle.hw_cert.specs.declared.version.Version.TheVariants.{Three}
-use Rattle.hw_cert.specs.Stream.{cert_stream_to}
 use Rattle.hw_report.specs.Reports.{Report, Naming, by_number, bad_flat, picture, refused, too_long}
 use Rattle.hw_command.specs.Certificates.{cert_outcome_to}
 use Rattle.hw_command.specs.Values.{most_bytes}
@@ -13,12 +11,8 @@ use Rattle.hw_repair.specs.Wishes.{PlanParts}
 use Rattle.hw_subject.specs.Meanings.{repaired_problem}
 use Rattle.hw_command.specs.declared.outcome.CertOutcome.{CertOutcome}
 use Rattle.hw_command.specs.declared.outcome.CertOutcome.TheVariants.{Shows, Wrong, TooLong}
-use Rattle.hw_subject.specs.Texts.{cert_bound}
+use Rattle.hw_subject.specs.Texts.{cert_bound, cert_table}
 use Rattle.hw_command_chart.specs.Charts.{picture_of}
-
--- the timetable of the last table line that a certificate's bytes read as, or none
-abbrev pub cert_table : Problem → List ℕ → Option (List ℕ)
-cert_table f bytes = last_table (cert_stream_to Three (shape_of f) bytes).lines
 
 -- the picture, in these names, if a certificate of these bytes of the judged problem, the second one, shows something, otherwise why it shows nothing
 abbrev pub outcome_chart : Naming → Problem → Option PlanParts → Problem → List ℕ → CertOutcome → Report

@@ -9,7 +9,8 @@ ghost use Rattle.hw_report.specs.Reports.{picture};
 ghost use Rattle.hw_command.specs.Ends.{Ends};
 ghost use Rattle.hw_subject.specs.Reading.{naming_of};
 ghost use Rattle.hw_command_chart.specs.ClashCharts.{kept_drawn, marked_clash, marks_in};
-ghost use Rattle.hw_command_chart.specs.ClashDrawing.{AreLines, EndsUnlessMemory, HasColumns, clash_chart_report};
+ghost use Rattle.hw_command_chart.specs.ClashDrawing.{AreLines, HasColumns, clash_chart_report};
+ghost use Rattle.hw_command_chart.specs.Drawing.{EndsUnlessMemory};
 
 use hw_cert::Verdict;
 use hw_chart_clash::{Mark, marks_of, put_clash_picture};

@@ -22,10 +22,10 @@ use Rattle.hw_command.specs.declared.outcome.CertOutcome.TheVariants.{Shows, Wro
 use Rattle.hw_command.proofs.FlatForms.{by_line}
 use Rattle.hw_subject.specs.Decided.{IsReported, ReportedBy}
 use Rattle.hw_subject.specs.Plans.{IsPlanOf, IsPlanText, IsWrongLine}
-use Rattle.hw_subject.specs.Subjects.{Subject, NoPlanned, flat_subject, repair_of, topic_subject}
+use Rattle.hw_subject.specs.Subjects.{Subject, NoPlanned, flat_subject, repair_of, topic_subject, LongText}
 use Rattle.hw_subject.proofs.Decided.{one_of, subjects_decided_law, told_bytes}
 use Rattle.hw_command_clash.specs.Asked.{asked}
-use Rattle.hw_command_clash.specs.CheckClash.{ChecksClash, BadClash, LongClash, ClashChecks, ClashChecksAs}
+use Rattle.hw_command_clash.specs.CheckClash.{ChecksClash, BadClash, ClashChecks, ClashChecksAs}
 use Rattle.hw_command_clash.specs.Inputs.{IsClashOf, IsBadClash, clash_feed}
 use Rattle.hw_command_clash.specs.Laws.{OneClashReport, TextsDecideClash}
 use Rattle.hw_command_clash.specs.Texts.{report_of_part, asked_report, clash_report, plan_clash_report, planned_clash_report, read_clash_report, clash_text_report, texts_clash_report}
@@ -58,7 +58,7 @@ of_bad {s = s} {clash = clash} feed bytes number word given says =
     let bad = subst (λ (x : Option (List ℕ)). IsBadClash x f number word) given says.bad in
     record { value = says.value; reads = says.reads; report = ap (bad_text feed number) bad.named ∙ sym (text_within feed f clash bytes bad.reads.0 ∙ ap (λ read. clash_report feed f read bytes) bad.reads.1) }
 
-of_long : {s : Subject} {name clash : List ℕ} {held : List ℕ → Option (List ℕ)} (feed : Feed) (bytes : List ℕ) → held name ≡ Some clash → LongClash s name held → ReportedBy s held (by_clash feed s clash bytes) (too_long feed)
+of_long : {s : Subject} {name clash : List ℕ} {held : List ℕ → Option (List ℕ)} (feed : Feed) (bytes : List ℕ) → held name ≡ Some clash → LongText s name held → ReportedBy s held (by_clash feed s clash bytes) (too_long feed)
 of_long {s = s} {clash = clash} feed bytes given says =
     let f = asked s says.value in
     let long = subst (λ (x : Option (List ℕ)). IfSome x IsLong) given says.long in

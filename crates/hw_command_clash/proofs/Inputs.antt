@@ -27,8 +27,8 @@ use Rattle.hw_command.specs.Works.{StopsReading}
 use Rattle.hw_command.proofs.Begun.{entered_on, input_stops, refuses}
 use Rattle.hw_command.proofs.FlatForms.{by_line, of_whole}
 use Rattle.hw_command.proofs.PortForms.{by_fault}
-use Rattle.hw_subject.specs.Subjects.{Subject, Origin, Topic, flat_text, port_of, flat_subject, port_subject, repair_of, topic_subject, repaired_by, origin_subject}
-use Rattle.hw_command_clash.specs.CheckClash.{BadClash, ClashChecks, ClashGives, GivesClash, LongClash}
+use Rattle.hw_subject.specs.Subjects.{Subject, Origin, Topic, flat_text, port_of, flat_subject, port_subject, repair_of, topic_subject, repaired_by, origin_subject, LongText}
+use Rattle.hw_command_clash.specs.CheckClash.{BadClash, ClashChecks, ClashGives, GivesClash}
 use Rattle.hw_command_clash.specs.Inputs.{IsBadClash, ReadsPart, StopsAtPart, StopsAtRead, StopsAtLine, clash_feed, feed_by, report_of_clash_fault}
 
 -- ---- the call
@@ -96,7 +96,7 @@ pub record Clashable (s : Subject) : Type 0 where
   pub gives : (name : List ℕ) (held : List ℕ → Option (List ℕ)) (feed : Feed) → s.Gives held feed → ClashGives s name held feed
   pub given : (name : List ℕ) (held : List ℕ → Option (List ℕ)) → GivesClash s name held → ClashGives s name held (clash_feed s)
   pub refuses : (name cert : List ℕ) (held : List ℕ → Option (List ℕ)) (r : Report) → s.Refuses held r → ClashChecks s name cert held r
-  pub long : (name cert : List ℕ) (held : List ℕ → Option (List ℕ)) → LongClash s name held → ClashChecks s name cert held (too_long (clash_feed s))
+  pub long : (name cert : List ℕ) (held : List ℕ → Option (List ℕ)) → LongText s name held → ClashChecks s name cert held (too_long (clash_feed s))
   pub bad : (name cert : List ℕ) (held : List ℕ → Option (List ℕ)) (number : ℕ) (word : List ℕ) → BadClash s name held number word → ClashChecks s name cert held (bad_text (clash_feed s) number word)
   pub by_plan : (v : s.Value) → clash_feed s ≡ feed_by (s.plan v)
 

@@ -8,14 +8,13 @@ use Rattle.hw_report.specs.Reports.{Report, by_number, checked, refused, bad_tex
 use Rattle.hw_command.specs.Carries.{Task, one_report}
 use Rattle.hw_command.specs.Certificates.{cert_outcome}
 use Rattle.hw_command.specs.Scope.{named_feed}
-use Rattle.hw_command.specs.Values.{IsLong}
 use Rattle.hw_command.specs.Verdicts.{ShownBy}
 use Rattle.hw_command.specs.declared.outcome.CertOutcome.{CertOutcome}
 use Rattle.hw_command.specs.declared.outcome.CertOutcome.TheVariants.{Shows, Wrong, TooLong}
 use Rattle.hw_clash.specs.Clashes.{Clash}
 use Rattle.hw_clash.specs.Clashing.{IsIrreducible}
 use Rattle.hw_clash.specs.Parts.{part}
-use Rattle.hw_subject.specs.Subjects.{Subject}
+use Rattle.hw_subject.specs.Subjects.{Subject, LongText}
 use Rattle.hw_subject.specs.Meanings.{NoneOf}
 use Rattle.hw_command_clash.specs.Asked.{asked, names_left, wishes_in}
 use Rattle.hw_command_clash.specs.Inputs.{IsClashOf, IsBadClash, clash_feed}
@@ -43,12 +42,6 @@ pub record BadClash (s : Subject) (name : List ℕ) (held : List ℕ → Option 
   pub reads : s.Reads held value
   pub bad : IsBadClash (held name) (asked s value) number word
 
--- what is read of the inputs, and a clash text that is too long
-pub record LongClash (s : Subject) (name : List ℕ) (held : List ℕ → Option (List ℕ)) : Type 0 where
-  pub value : s.Value
-  pub reads : s.Reads held value
-  pub long : IfSome (held name) IsLong
-
 -- what a report says of the inputs, of the clash text, which comes as this input, and of the certificate, each as far as it is told. For the same told bytes at most one report but `memory` is right, and nothing else is printed
 abbrev pub ClashChecksAs : Feed → Subject → List ℕ → List ℕ → (List ℕ → Option (List ℕ)) → Report → Type 0
 ClashChecksAs feed s name cert held clash_holds = ChecksClash s name cert held (Shows verdicts.Infeasible)
@@ -56,9 +49,9 @@ ClashChecksAs feed s name cert held (checked v bound ships names) = (checked v b
 ClashChecksAs feed s name cert held (refused number word hint) = ChecksClash s name cert held (Wrong number word hint)
 ClashChecksAs feed s name cert held (too_long feeds.Certificate) = ChecksClash s name cert held TooLong
 ClashChecksAs feeds.Plan s name cert held (bad_text feeds.Plan number word) = BadClash s name held number word
-ClashChecksAs feeds.Plan s name cert held (too_long feeds.Plan) = LongClash s name held
+ClashChecksAs feeds.Plan s name cert held (too_long feeds.Plan) = LongText s name held
 ClashChecksAs feeds.Clash s name cert held (bad_text feeds.Clash number word) = BadClash s name held number word
-ClashChecksAs feeds.Clash s name cert held (too_long feeds.Clash) = LongClash s name held
+ClashChecksAs feeds.Clash s name cert held (too_long feeds.Clash) = LongText s name held
 ClashChecksAs feed s name cert held r = s.Refuses held r
 
 abbrev pub ClashChecks : Subject → List ℕ → List ℕ → (List ℕ → Option (List ℕ)) → Report → Type 0

@@ -1,7 +1,8 @@
 -- The letters of an order, read one after the other as a loop does, and the places in which their rules are kept.
 use Rattle.std.proofs.Common.{◌≡◌, ℕ, ◌+◌, ◌-◌, ◌==◌, ◌<◌, ◌≤◌, false, List, [], ◌∷◌, ◌++◌, Option, Some, None, length, take, drop, set, get_or, replicate, refl, sym, ap, ◌∙◌, append_assoc, add-one, drop-cons, arith}
 use Rattle.std.proofs.lemmas.List.{drop-replicate, drop-set-lt, take_more_set}
-use Rattle.hw_flat.specs.TextForms.{put_first, with_front}
+use Rattle.hw_flat.specs.TextForms.{with_front}
+use Rattle.hw_text.specs.Parts.{put_first}
 use Rattle.hw_search_laws.specs.declared.outcome.Branching.{Branching}
 use Rattle.hw_search_laws.specs.declared.outcome.Branching.TheVariants.{Greatest}
 use Rattle.hw_command_search.specs.Orders.{rule_of_letter, rules_read}

@@ -1,7 +1,7 @@
 -- The order in which searchers take turns, and its word: a letter for each turn.
 use Rattle.std.specs.Prelude.{◌≡◌, ◌≤◌, ℕ, ◌-◌, ◌==◌, ◌&&◌, List, [], ◌∷◌, ◌++◌, Option, Some, None, drop, length, nat_le, replicate, take, unwrap_or, if◌then◌else◌}
 use Rattle.std.proofs.Common.{◌∙◌, ap, length-take-le, subst, sym, take-append-drop}
-use Rattle.hw_flat.specs.TextForms.{put_first}
+use Rattle.hw_text.specs.Parts.{put_first}
 use Rattle.hw_search_laws.specs.declared.outcome.Branching.{Branching}
 use Rattle.hw_search_laws.specs.declared.outcome.Branching.TheVariants.{Greatest, Earliest, Latest}
 

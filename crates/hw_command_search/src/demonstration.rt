@@ -1,15 +1,12 @@
 //! `demo NUMBER SHIPS SLOTS BUDGET PROOF`: a demonstration that is solved and checked.
 
-ghost use Rattle.std.specs.Prelude.{◌≡◌, ◌≤◌, ◌∷◌, ◌++◌, [], All, IfOk, List, None, length, true};
+ghost use Rattle.std.specs.Prelude.{◌≡◌, ◌≤◌, [], All, IfOk, None, length, true};
 ghost use Rattle.hw_cert.specs.Logs.{memory_log};
-ghost use Rattle.hw_check.specs.Follows.{CheckerFollows};
 ghost use Rattle.hw_desk.specs.State.{IsNewDesk};
 ghost use Rattle.hw_flat.specs.Demonstration.{demonstration};
 ghost use Rattle.hw_cert_lines.specs.Lemmas.{lemmas_of};
-ghost use Rattle.hw_cert_lines.specs.Refusals.{kept_refusal};
 ghost use Rattle.hw_cert_lines.specs.Tolled.{is_plain};
 ghost use Rattle.hw_cert_lines.specs.Valid.{LineFits, Valid, verdict};
-ghost use Rattle.hw_cert_lines.specs.declared.line.Line.{Line as CertLine};
 ghost use Rattle.hw_search_laws.specs.Solving.{SolveMeets};
 ghost use Rattle.hw_report.specs.Printing.{CanPrint};
 ghost use Rattle.hw_report.specs.Reports.{demo as summary_of};
@@ -18,7 +15,8 @@ ghost use Rattle.hw_command.specs.Carries.{Carries};
 ghost use Rattle.hw_command_search.specs.Demo.{CanDraw, Demonstrates, best_in, demo_task, head_of};
 
 use hw_cert::{Line, MemoryLog, Verdict, Version};
-use hw_check::{CheckStop, Checker};
+use hw_cert_course::check_one;
+use hw_check::Checker;
 use hw_command::{Status, finish, send_lines};
 use hw_desk::Desk;
 use hw_flat::{Flat, make_demo};
@@ -149,20 +147,6 @@ fn check_all(alloc: Global, flat: &Flat, lines: &[Line]) -> Result<Verdict, NoMe
         checker = check_one(checker, line)?;
     }
     Ok(checker.verdict())
-}
-
-/// Checks a line that is valid after those that were taken.
-fn check_one<'f>(checker: Checker<'f>, line: &Line) -> Result<Checker<'f>, NoMemory>
-    requires fits { LineFits checker.problem line.now }
-    requires valid { kept_refusal checker.problem checker.kept line.now ≡ None }
-    ensures problem { IfOk result (λ c. c.problem ≡ checker.entry.problem) }
-    ensures followed { (before : List CertLine) → CheckerFollows checker.entry before → IfOk result (λ c. CheckerFollows c (before ++ line.now ∷ [])) }
-{
-    match checker.borrowed_line(line) {
-        Ok(followed) => Ok(followed),
-        Err(CheckStop::NoMemory) => Err(NoMemory),
-        Err(CheckStop::Refused(_)) => unreachable!(),
-    }
 }
 
 /// How many of the lines are lemmas.

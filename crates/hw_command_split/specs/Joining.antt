@@ -19,7 +19,6 @@ use Rattle.hw_report.specs.declared.report.RefusedWord.TheVariants.{Check}
 use Rattle.hw_command.specs.Carries.{Task}
 use Rattle.hw_command.specs.Scope.{named_feed, MakesProof}
 use Rattle.hw_command.specs.Sending.{IsCutOf}
-use Rattle.hw_command.specs.Values.{IsLong}
 use Rattle.hw_command.specs.declared.outcome.CertOutcome.{CertOutcome}
 use Rattle.hw_command.specs.declared.outcome.CertOutcome.TheVariants.{TooLong, Wrong}
 use Rattle.hw_cert_course.specs.Going.{LineFails}
@@ -27,7 +26,7 @@ use Rattle.hw_cert_join.specs.Joining.{JoinsEach}
 use Rattle.hw_cert_join.specs.declared.joined.Joined.{Joined}
 use Rattle.hw_split_text.specs.declared.node.Node.{Node}
 use Rattle.hw_subject.specs.Meanings.{IsBoundOf, VerdictSays, judged}
-use Rattle.hw_subject.specs.Subjects.{Subject}
+use Rattle.hw_subject.specs.Subjects.{Subject, LongText}
 use Rattle.hw_command_split.specs.Certs.{AreCerts, CertsStopIn}
 use Rattle.hw_command_split.specs.Splits.{IsBadSplit, IsSplitOf}
 
@@ -83,11 +82,6 @@ pub record BadSplit (s : Subject) (split : List ℕ) (held : List ℕ → Option
   pub reads : s.Reads held value
   pub bad : IsBadSplit (held split) (judged s value) number word
 
-pub record LongSplit (s : Subject) (split : List ℕ) (held : List ℕ → Option (List ℕ)) : Type 0 where
-  pub value : s.Value
-  pub reads : s.Reads held value
-  pub long : IfSome (held split) IsLong
-
 -- what reports say of the inputs, of the split, of the certificates and of Proof, each as far as it is told; none is a write fault on Proof. A verdict is followed by the first open part, if there is one, and nothing else is printed
 abbrev pub JoinSays : Subject → List ℕ → List ℕ → List ℕ → DeskState → DeskState → List Report → Type 0
 JoinSays s split certs proof old new [] = JoinBreaks s split certs old new
@@ -96,7 +90,7 @@ JoinSays s split certs proof old new (checked v bound plan names ∷ open_part n
 JoinSays s split certs proof old new (refused number word hint ∷ []) = RefusesCerts s split certs old.held (Wrong number word hint)
 JoinSays s split certs proof old new (too_long Certificate ∷ []) = RefusesCerts s split certs old.held TooLong
 JoinSays s split certs proof old new (bad_text Split number word ∷ []) = BadSplit s split old.held number word
-JoinSays s split certs proof old new (too_long Split ∷ []) = LongSplit s split old.held
+JoinSays s split certs proof old new (too_long Split ∷ []) = LongText s split old.held
 JoinSays s split certs proof old new (r ∷ []) = s.Refuses old.held r
 JoinSays s split certs proof old new (r ∷ next ∷ more) = ⊥
 

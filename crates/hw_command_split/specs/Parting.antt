@@ -19,7 +19,6 @@ use Rattle.hw_cert_lines.specs.declared.check.Refusal.{Refusal}
 use Rattle.hw_command.specs.Carries.{Task, one_report}
 use Rattle.hw_command.specs.Scope.{named_feed, MakesProof}
 use Rattle.hw_command.specs.Sending.{IsCutOf}
-use Rattle.hw_command.specs.Values.{IsLong}
 use Rattle.hw_command.specs.declared.outcome.CertOutcome.TheVariants.{Wrong, TooLong}
 use Rattle.hw_command.specs.declared.outcome.CertOutcome.{CertOutcome}
 use Rattle.hw_cert_course.specs.Going.{LineFails, LinesGoOn}
@@ -28,7 +27,7 @@ use Rattle.hw_split_text.specs.declared.node.Node.{Node}
 use Rattle.hw_split_text.specs.Splits.{Branch, branch_holds, part_at}
 use Rattle.hw_subject.specs.Meanings.{judged}
 use Rattle.hw_subject.specs.Shown.{Shown, Refused}
-use Rattle.hw_subject.specs.Subjects.{Subject}
+use Rattle.hw_subject.specs.Subjects.{Subject, LongText}
 use Rattle.hw_command_split.specs.Splits.{IsBadSplit, IsSplitOf, LacksPart}
 use Rattle.hw_command_split.specs.declared.parting.PartWords.{PartWords}
 
@@ -110,12 +109,6 @@ pub record BadSplit (s : Subject) (split : List ℕ) (part : ℕ) (held : List �
   pub reads : s.Reads held value
   pub bad : IsBadSplit (held split) (judged s value) number word ⊎ LacksPart (held split) (judged s value) part number word
 
--- what is read of the inputs, and a split that is too long
-pub record LongSplit (s : Subject) (split : List ℕ) (held : List ℕ → Option (List ℕ)) : Type 0 where
-  pub value : s.Value
-  pub reads : s.Reads held value
-  pub long : IfSome (held split) IsLong
-
 -- what a report says of the inputs, of the split, of the certificate and of Proof, each as far as it is told; none is a write fault on Proof, and nothing else is printed
 abbrev pub PartSays : Subject → List ℕ → ℕ → List ℕ → ℕ → List ℕ → DeskState → DeskState → Option Report → Type 0
 PartSays s split number start budget proof old new None = PartBreaks s split number start old new
@@ -123,7 +116,7 @@ PartSays s split number start budget proof old new (Some (part_told part is_clos
 PartSays s split number start budget proof old new (Some (refused line word hint)) = RefusesStart s split number start old.held (Wrong line word hint) ⊎ IsNotTakenIn s split number start old.held line word hint
 PartSays s split number start budget proof old new (Some (too_long Certificate)) = RefusesStart s split number start old.held TooLong
 PartSays s split number start budget proof old new (Some (bad_text Split line word)) = BadSplit s split number old.held line word
-PartSays s split number start budget proof old new (Some (too_long Split)) = LongSplit s split old.held
+PartSays s split number start budget proof old new (Some (too_long Split)) = LongText s split old.held
 PartSays s split number start budget proof old new (Some r) = s.Refuses old.held r
 
 -- the inputs give what they give the subject, and the split a part of that number

@@ -22,7 +22,7 @@ use Rattle.hw_subject.specs.Subjects.{Subject, Harbour, Origin, origin_subject, 
 use Rattle.hw_subject.specs.declared.subject.Given.{Given}
 use Rattle.hw_subject.proofs.Certless.{certless}
 use Rattle.hw_subject.proofs.Readings.{give_before}
-use Rattle.hw_command_texts.specs.Listed.{held_report}
+use Rattle.hw_command_texts.specs.Listed.{text_report}
 use Rattle.hw_command_texts.specs.Listings.{Lists, flat_text_of, listing_task, port_task}
 
 refused_says : (origin : Origin) (text : (origin_subject origin).Value → List ℕ) (held : List ℕ → Option (List ℕ)) (r : Report) → (origin_subject origin).Refuses held r → Lists (origin_subject origin) text held r
@@ -52,7 +52,7 @@ pub port_sent : {x y z : DeskState} {s : Status} {p : Parts} {t : TideParts} {f 
 port_sent {p = p} {t = t} instance table text h ends = read_sent (port_subject instance table) text (record { port = p; tide = t }) h.port h.entered (port_given h, tt) h.read_faults ends
 
 -- one that was made in memory, or memory ran out for it
-pub held_sent : {x y z : DeskState} {s : Status} {p : Parts} {t : TideParts} {f : Problem} (instance table : List ℕ) (text : Harbour → List ℕ) (held : Result (Vec ℕ Global) NoMemory) → ReadsPortProblem instance table x y p t f → IfOk held (λ made. made.items ≡ text (record { port = p; tide = t })) → Ends (held_report held ∷ []) y z s → Carries (port_task instance table text) x z s
+pub held_sent : {x y z : DeskState} {s : Status} {p : Parts} {t : TideParts} {f : Problem} (instance table : List ℕ) (text : Harbour → List ℕ) (held : Result (Vec ℕ Global) NoMemory) → ReadsPortProblem instance table x y p t f → IfOk held (λ made. made.items ≡ text (record { port = p; tide = t })) → Ends (text_report held ∷ []) y z s → Carries (port_task instance table text) x z s
 held_sent {y = y} {z = z} {s = s} instance table text (Ok made) h is ends = port_sent instance table text h (subst (λ (bytes : List ℕ). Ends (whole_text bytes ∷ []) y z s) is ends)
 held_sent {y = y} instance table text (Err stop) h is ends = record {
   mid = y;

@@ -40,7 +40,8 @@ use Rattle.hw_command.proofs.Endings.{all_sent, cut_off, nothing_sent, sent_more
 use Rattle.hw_command.proofs.FlatForms.{of_whole}
 use Rattle.hw_command.proofs.PortForms.{instance_stops, memory_stops, table_stops, gives_port, is_port}
 use Rattle.hw_command.proofs.Stops.{stops_carries}
-use Rattle.hw_command_texts.specs.Linted.{Refusal, RefusesInstance, RefusesTable, hinted_reports, text_report}
+use Rattle.hw_command_texts.specs.Linted.{Refusal, RefusesInstance, RefusesTable, hinted_reports}
+use Rattle.hw_command_texts.specs.Listed.{text_report}
 use Rattle.hw_command_texts.specs.Lints.{HintsOf, LintsTexts, lint_task}
 
 -- ---- two reports

@@ -21,12 +21,12 @@ use Rattle.hw_subject.specs.Meanings.{judged}
 use Rattle.hw_subject.specs.Subjects.{Origin}
 use Rattle.hw_subject.specs.Decided.{IsDecided, IsReported, ReportedBy, certified}
 use Rattle.hw_subject.specs.Shown.{Refused, Shown}
-use Rattle.hw_subject.specs.Texts.{cert_bound, cert_report}
+use Rattle.hw_subject.specs.Texts.{cert_bound, cert_report, cert_table}
 use Rattle.hw_subject.proofs.Decided.{one_of, subjects_decided_law, told_bytes}
 use Rattle.hw_subject.proofs.Reports.{certificates_decide_law, told_as}
 use Rattle.hw_command_texts.specs.Explains.{Explained, ExplainsRepair, ShowsNone}
 use Rattle.hw_command_texts.specs.RepairLaws.{ExplainedAsVerified, IsTextFor, OneExplanation}
-use Rattle.hw_command_texts.specs.Texts.{cert_table, cert_told, outcome_told, told_report}
+use Rattle.hw_command_texts.specs.Texts.{cert_told, outcome_told, told_report}
 use Rattle.hw_command_texts.proofs.Explained.{subject_by, topic_of}
 
 -- ---- by what is read of the inputs

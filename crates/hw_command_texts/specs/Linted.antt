@@ -18,11 +18,6 @@ abbrev pub hinted_reports : Result (Vec ℕ Global) NoMemory → Report → List
 hinted_reports (Ok hints) r = whole_text hints.items ∷ r ∷ []
 hinted_reports (Err stop) r = no_memory ∷ []
 
--- the report of a text that is made in memory before it is sent
-abbrev pub text_report : Result (Vec ℕ Global) NoMemory → Report
-text_report (Ok text) = whole_text text.items
-text_report (Err stop) = no_memory
-
 -- some hints and the refusal are sent, or that memory ran out
 pub record SendsHinted (Hints : List ℕ → Type 0) (r : Report) (old new : DeskState) (s : Status) : Type 0 where
   pub hints : List ℕ

@@ -28,6 +28,6 @@ CanList (Table named table) = HasTable named.now
 CanList listing = ⊤
 
 -- the report of a text that is made in memory before it is sent
-abbrev pub held_report : Result (Vec ℕ Global) NoMemory → Report
-held_report (Ok text) = whole_text text.items
-held_report (Err stop) = no_memory
+abbrev pub text_report : Result (Vec ℕ Global) NoMemory → Report
+text_report (Ok text) = whole_text text.items
+text_report (Err stop) = no_memory

@@ -1,11 +1,9 @@
 -- The report on a certificate by its bytes alone.
 use Rattle.std.specs.Prelude.{ℕ, List, Option, Some}
-use Rattle.hw_model.specs.Problem.{Problem, shape_of}
+use Rattle.hw_model.specs.Problem.{Problem}
 use Rattle.hw_desk.specs.declared.desk.Feed.TheVariants.{Certificate}
-use Rattle.hw_cert_lines.specs.Lines.{last_table}
 use Rattle.hw_cert_lines.specs.declared.check.Verdict.{Verdict}
 use Rattle.hw_cert.specs.declared.version.Version.TheVariants.{Three}
-use Rattle.hw_cert.specs.Stream.{cert_stream_to}
 use Rattle.hw_repair.specs.Repaired.{repaired}
 use Rattle.hw_repair.specs.Wishes.{PlanParts}
 use Rattle.hw_repair_text.specs.Texts.{repair_text}
@@ -15,7 +13,7 @@ use Rattle.hw_command.specs.declared.outcome.CertOutcome.{CertOutcome}
 use Rattle.hw_command.specs.declared.outcome.CertOutcome.TheVariants.{Shows, Wrong, TooLong}
 use Rattle.hw_subject.specs.Reading.{naming_of, plan_in}
 use Rattle.hw_subject.specs.declared.subject.Given.{Given}
-use Rattle.hw_subject.specs.Texts.{cert_bound}
+use Rattle.hw_subject.specs.Texts.{cert_bound, cert_table}
 
 -- what a timetable makes of a plan, or what a certificate without one shows; where there is no plan, that as well
 abbrev pub told_report : Naming → Problem → Option PlanParts → Verdict → Option ℕ → Option (List ℕ) → Report
@@ -25,10 +23,6 @@ told_report names f plan shows bound table = checked shows bound plan names
 -- the same of what was given
 abbrev pub given_report : Given → Verdict → Option ℕ → Option (List ℕ) → Report
 given_report given = told_report (naming_of given.named) given.flat (plan_in given.repair)
-
--- the timetable of the last table line that the bytes of a certificate read as, or none
-abbrev pub cert_table : Problem → List ℕ → Option (List ℕ)
-cert_table f bytes = last_table (cert_stream_to Three (shape_of f) bytes).lines
 
 -- if a certificate of these bytes shows something, what its timetable makes of the plan; otherwise why it shows nothing
 abbrev pub outcome_told : Naming → Problem → PlanParts → List ℕ → CertOutcome → Report

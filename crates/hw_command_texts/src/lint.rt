@@ -9,9 +9,10 @@ ghost use Rattle.hw_report.specs.Reports.{bad_field, bad_json, bad_tides, whole_
 ghost use Rattle.hw_report.specs.Seen.{report_seen};
 ghost use Rattle.hw_command.specs.Carries.{Carries};
 ghost use Rattle.hw_command.specs.Ends.{Ends};
-ghost use Rattle.hw_command_texts.specs.Linted.{Refusal, RefusesInstance, RefusesTable, hinted_reports, text_report};
+ghost use Rattle.hw_command_texts.specs.Linted.{Refusal, RefusesInstance, RefusesTable, hinted_reports};
 ghost use Rattle.hw_command_texts.specs.Lints.{lint_task};
 
+use crate::listing::{list_held, whole_report};
 use hw_command::{PortNames, Status, finish, read_input, status_of, stopped};
 use hw_desk::{Desk, Feed};
 use hw_model::NoMemory;
@@ -44,24 +45,6 @@ fn send_hinted<D: Desk>(desk: &mut D, hints: &Result<Vec<u8>, NoMemory>, refusal
 {
     match hints {
         Ok(hints) => send_both(desk, hints, refusal),
-        Err(_) => finish(desk, &Report::Memory),
-    }
-}
-
-/// The report that is a text.
-fn whole_report(text: &[u8]) -> Report
-    ensures value { report_seen result ≡ whole_text text.now }
-    ensures printed { CanPrint (report_seen result) }
-{
-    Report::WholeText { text }
-}
-
-/// Sends a text that was made in memory, or reports that it ran out.
-fn send_text<D: Desk>(desk: &mut D, text: &Result<Vec<u8>, NoMemory>) -> Status
-    ensures { Ends (text_report text.now ∷ []) (D.state desk.old) (D.state desk.new) result }
-{
-    match text {
-        Ok(text) => finish(desk, &whole_report(text)),
         Err(_) => finish(desk, &Report::Memory),
     }
 }
@@ -137,7 +120,7 @@ pub fn lint_port<D: Desk>(alloc: Global, desk: &mut D, names: PortNames) -> Stat
         Ok(tide) => {
             // Reading a field shows that the tide is within its limits.
             let rows = tide.rows;
-            send_text(desk, &lint_text(alloc, &port, rows, &table))
+            list_held(desk, &lint_text(alloc, &port, rows, &table))
         }
         Err(fault) => refuse_table(alloc, desk, &table, fault),
     }

@@ -8,7 +8,7 @@ ghost use Rattle.hw_report.specs.Reports.{whole_text};
 ghost use Rattle.hw_report.specs.Seen.{report_seen};
 ghost use Rattle.hw_command.specs.Ends.{Ends};
 ghost use Rattle.hw_subject.specs.Reading.{naming_of};
-ghost use Rattle.hw_command_texts.specs.Listed.{CanList, HasTable, held_report, listing_text};
+ghost use Rattle.hw_command_texts.specs.Listed.{CanList, HasTable, text_report, listing_text};
 ghost use Rattle.hw_command_texts.specs.Listings.{programme_text};
 ghost use Rattle.hw_command_texts.specs.Tables.{listing_table};
 
@@ -57,7 +57,7 @@ pub(crate) fn list<D: Desk>(desk: &mut D, listing: Listing) -> Status
 
 /// Sends a text that was made in memory, or reports that it ran out.
 pub(crate) fn list_held<D: Desk>(desk: &mut D, text: &Result<Vec<u8>, NoMemory>) -> Status
-    ensures { Ends (held_report text.now ∷ []) (D.state desk.old) (D.state desk.new) result }
+    ensures { Ends (text_report text.now ∷ []) (D.state desk.old) (D.state desk.new) result }
 {
     match text {
         Ok(text) => finish(desk, &whole_report(text)),
@@ -66,7 +66,7 @@ pub(crate) fn list_held<D: Desk>(desk: &mut D, text: &Result<Vec<u8>, NoMemory>)
 }
 
 /// The report that is a text.
-fn whole_report(text: &[u8]) -> Report
+pub(crate) fn whole_report(text: &[u8]) -> Report
     ensures value { report_seen result ≡ whole_text text.now }
     ensures printed { CanPrint (report_seen result) }
 {

@@ -19,7 +19,7 @@ pub use calm::CalmDesk;
 pub use desk::{Desk, DeskFailed, Feed, Tray};
 pub use feeds::Feeds;
 pub use hw_model::NoMemory;
-pub use memory::{DeskCall, FailAt, MemoryDesk};
+pub use memory::{DeskCall, FailAt, MemoryDesk, failed};
 pub use slots::NamedBytes;
 pub use whole::{ReadStop, read_whole, write_all};
 pub use writer::{TrayWriter, Writer};

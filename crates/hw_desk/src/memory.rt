@@ -96,9 +96,10 @@ fn is_next(fails: &[FailAt], call: DeskCall, count: &mut u64) -> bool
     is_on(fails, call, *count)
 }
 
-/// Counts a fault.
-fn failed(faults: &mut u64) -> DeskFailed
-    ensures { faults.new ≡ next_count faults.old }
+/// Counts a fault, up to 2^64 - 1.
+pub fn failed(faults: &mut u64) -> DeskFailed
+    ensures count { faults.new ≡ next_count faults.old }
+    ensures later { faults.old ≤ faults.new }
 {
     *faults = faults.saturating_add(1);
     DeskFailed

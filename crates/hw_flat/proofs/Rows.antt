@@ -1,7 +1,8 @@
 -- Reading the words of a line one after the other, as a loop does.
 use Rattle.std.proofs.Common.{◌≡◌, ℕ, suc, ◌+◌, ◌-◌, ◌<◌, ◌≤◌, Bool, List, [], ◌∷◌, ◌++◌, Option, Some, None, length, refl, sym, ap, ◌∙◌, append_assoc, arith}
 use Rattle.std.proofs.lemmas.List.{length_push}
-use Rattle.hw_flat.specs.TextForms.{with_front, put_first, row_values, value_word, items_of, some_items}
+use Rattle.hw_flat.specs.TextForms.{with_front, row_values, value_word, items_of, some_items}
+use Rattle.hw_text.specs.Parts.{put_first}
 
 regroup : {A : Type 0} (front : List A) (x : A) (o : Option (List A)) → with_front front (put_first (Some x) o) ≡ with_front (front ++ x ∷ []) o
 regroup front x None = refl

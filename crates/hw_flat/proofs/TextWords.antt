@@ -16,10 +16,10 @@ use Rattle.hw_model.specs.declared.rule.Rule.{Rule}
 use Rattle.hw_model.specs.declared.rule.Step.{Step}
 use Rattle.hw_model.specs.Limits.{HoleFits, JobFits, StepFits}
 use Rattle.hw_text.specs.Numbers.{number_up_to, number_from_to, signed_up_to}
-use Rattle.hw_text.specs.Parts.{parts_of, words_of}
+use Rattle.hw_text.specs.Parts.{parts_of, words_of, put_first}
 use Rattle.hw_text.proofs.Spelled.{is_spelled}
 use Rattle.hw_text.proofs.Signs.{is_signed, from_to_is}
-use Rattle.hw_flat.specs.TextForms.{◌and_then◌, kept_if, put_first, ship_word, hole_parts, hole_form, job_parts, job_form, items_of, some_items, ascend_from, pair_words, after_words, most_fleet, tugs_words, step_parts, step_form, put_front, front_items, steps_ascend_from, some_ascending, with_jobs, hours_words, rule_words, rule_form}
+use Rattle.hw_flat.specs.TextForms.{◌and_then◌, kept_if, ship_word, hole_parts, hole_form, job_parts, job_form, items_of, some_items, ascend_from, pair_words, after_words, most_fleet, tugs_words, step_parts, step_form, put_front, front_items, steps_ascend_from, some_ascending, with_jobs, hours_words, rule_words, rule_form}
 use Rattle.hw_flat.specs.TextWritten.{hole_text, job_text, step_text, rule_texts, rule_text}
 use Rattle.hw_flat.proofs.HourRules.{StepIn, RuleIn, fleet_told, most_small}
 

@@ -1,4 +1,5 @@
 pub mod Opened
+pub mod Carried
 pub mod TextForms
 pub mod Text
 pub mod TextWritten

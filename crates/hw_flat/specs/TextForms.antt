@@ -8,7 +8,7 @@ use Rattle.hw_model.specs.declared.rule.Rule.{Rule}
 use Rattle.hw_model.specs.declared.rule.Rule.TheVariants.{Pair, After, Tugs}
 use Rattle.hw_model.specs.declared.rule.Step.{Step}
 use Rattle.hw_text.specs.Numbers.{number_up_to, number_from_to, signed_up_to}
-use Rattle.hw_text.specs.Parts.{parts_of, words_of}
+use Rattle.hw_text.specs.Parts.{parts_of, words_of, put_first}
 
 infixl 10 ◌and_then◌
 abbrev pub ◌and_then◌ : {A B : Type 0} → Option A → (A → Option B) → Option B
@@ -39,11 +39,6 @@ size_words _ = None
 -- `size SHIPS SLOTS`, where SLOTS counts the slots in which ships sail
 abbrev pub size_form : List ℕ → Option (ℕ × ℕ)
 size_form line = size_words (words_of line)
-
-abbrev pub put_first : {A : Type 0} → Option A → Option (List A) → Option (List A)
-put_first None o = None
-put_first (Some x) None = None
-put_first (Some x) (Some xs) = Some (x ∷ xs)
 
 -- the items in front and those after them, where there are any
 abbrev pub with_front : {A : Type 0} → List A → Option (List A) → Option (List A)

@@ -3,6 +3,7 @@
 ghost use Rattle.std.specs.Prelude.{◌≡◌, ◌<◌, ◌≤◌, unwrap_or, length, All};
 ghost use Rattle.hw_model.specs.Problem.{Problem, shape_of, horizon, value_at};
 ghost use Rattle.hw_model.specs.Limits.{IsFlat, ShapeFits};
+ghost use Rattle.hw_flat.specs.Carried.{worth};
 
 use hw_model::{MOST_VALUE, Rule, Shape, ShipId, Slot};
 use std::marker::Model;
@@ -73,6 +74,16 @@ impl Flat {
         ensures small { unwrap_or result 0 ≤ MOST_VALUE }
     {
         self.values[(ship * self.slots + slot) as usize]
+    }
+
+    /// What a ship carries in a slot, in tenths of a tonne: 0 where it has no value there.
+    pub fn worth(&self, ship: ShipId, slot: Slot) -> u64
+        requires ship_in { ship < self.now.ships }
+        requires slot_in { slot < self.now.slots }
+        ensures value { result ≡ worth self.now ship slot }
+        ensures small { result ≤ MOST_VALUE }
+    {
+        self.value(ship, slot).unwrap_or(0)
     }
 
     /// The rules, in order.

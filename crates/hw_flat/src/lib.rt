@@ -23,4 +23,4 @@ pub use hw_model::{
 };
 pub use laws::{one_text, reads_back};
 pub use room::Room;
-pub use timetable::Timetable;
+pub use timetable::{Timetable, is_timetable};

@@ -1,7 +1,9 @@
 //! A timetable: one slot for each ship.
 
-ghost use Rattle.std.specs.Prelude.{◌≡◌, ◌≤◌, ◌<◌, length, IfOk, slice_index};
+ghost use Rattle.std.specs.Prelude.{◌≡◌, ◌≤◌, ◌<◌, ◌↔◌, length, IfOk, IsTrue, slice_index};
+ghost use Rattle.hw_model.specs.Problem.{IsTimetable};
 
+use crate::flat::Flat;
 use hw_model::{MOST_SHIPS, NoMemory, ShipId, Slot};
 use std::alloc::Global;
 use std::marker::Model;
@@ -31,6 +33,14 @@ impl Timetable {
     {
         let slots = Vec::from_slice(alloc, slots)?;
         Ok(Timetable { slots })
+    }
+
+    /// The same slots in memory of their own.
+    pub fn copy(&self, alloc: Global) -> Result<Timetable, NoMemory>
+        ensures value { IfOk result (λ t. t ≡ self.now) }
+    {
+        let _few = self.len();
+        Timetable::from_slots(alloc, &self.slots)
     }
 
     /// The number of its slots, one for each ship.
@@ -63,4 +73,13 @@ impl Timetable {
     {
         self.slots.copy_from_slice(&other.slots);
     }
+}
+
+/// Whether it is a timetable of the problem: one slot for each ship.
+pub fn is_timetable(flat: &Flat, table: &Timetable) -> bool
+    ensures { IsTrue result ↔ IsTimetable flat.now table.now }
+{
+    let shape = flat.shape();
+    let slots = table.as_slice();
+    slots.len() == shape.ships as usize && slots.iter().all(|slot| *slot < shape.slots)
 }

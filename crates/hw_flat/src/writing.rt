@@ -8,7 +8,7 @@ ghost use Rattle.hw_flat.specs.TextWritten.{led, header_text, size_text, value_t
 use crate::flat::Flat;
 use crate::hours::any_hours;
 use hw_model::{Hole, Job, NoMemory, Rule, Step};
-use hw_text::{put_number, put_signed};
+use hw_text::{put_number, put_signed, put_spaced};
 use std::alloc::AllocError;
 
 /// Appends ` VALUE`, or ` -` for none.
@@ -155,14 +155,6 @@ fn put_key(out: &mut Vec<u8>, key: u8, number: u32) -> Result<(), AllocError>
     put_number(out, u64::from(number))
 }
 
-/// Appends a space and a number.
-fn put_next(out: &mut Vec<u8>, number: u32) -> Result<(), AllocError>
-    ensures { OnOk result (out.new.items ≡ out.old.items ++ 32 ∷ decimal number) }
-{
-    out.push(b' ')?;
-    put_number(out, u64::from(number))
-}
-
 /// The key of a fleet with these steps.
 fn key_of(later: &[Step]) -> u8
     ensures { result ∷ [] ≡ tugs_key later.now }
@@ -177,13 +169,13 @@ fn put_rule(out: &mut Vec<u8>, rule: &Rule) -> Result<(), AllocError>
     match rule {
         Rule::Pair { v, w, holes } => {
             put_key(out, b'p', *v)?;
-            put_next(out, *w)?;
+            put_spaced(out, *w)?;
             put_holes(out, &holes.items)
         }
         Rule::After { v, w, gap } => {
             put_key(out, b's', *v)?;
-            put_next(out, *w)?;
-            put_next(out, *gap)
+            put_spaced(out, *w)?;
+            put_spaced(out, *gap)
         }
         Rule::Tugs { fleet, later, jobs } => {
             put_key(out, key_of(&later.items), *fleet)?;
@@ -224,7 +216,7 @@ fn put_head(
     out.push(version)?;
     out.extend_from_slice(b"\nsize ")?;
     put_number(out, u64::from(ships))?;
-    put_next(out, sailing)?;
+    put_spaced(out, sailing)?;
     out.push(b'\n')?;
     Ok(())
 }

@@ -15,6 +15,7 @@ use Rattle.hw_model.specs.Timetables.{beats, breach, cargo}
 use Rattle.hw_rules.specs.declared.spacing.Freeing.TheVariants.{Lesser}
 use Rattle.hw_rules.specs.OneHole.{one_hole}
 use Rattle.hw_rules.specs.Sources.{number_of}
+use Rattle.hw_model_laws.specs.Rows.{two_apart, one_stays}
 
 -- three ships and six slots, in all of which ships sail
 abbrev pub always_sailing : Problem
@@ -24,10 +25,6 @@ always_sailing = record { ships = 3; slots = 6; stay = false; values = None ∷ 
 abbrev pub sailing_room : RoomModel
 sailing_room = record { ships = 3; slots = 6; ranges = (1, 1) ∷ (2, 5) ∷ (0, 4) ∷ []; orders = replicate 9 Unset }
 
--- two ships two slots apart
-abbrev pub ships_kept_apart : Problem
-ships_kept_apart = record { ships = 2; slots = 3; stay = false; values = Some 10 ∷ Some 20 ∷ Some 30 ∷ Some 10 ∷ Some 20 ∷ Some 30 ∷ []; rules = Pair 0 1 (record { lo = neg_ℤ (pos 1); hi = pos 1 } ∷ []) ∷ [] }
-
 -- two ships whose holes no two slots reach
 abbrev pub holes_out_of_reach : Problem
 holes_out_of_reach = record { ships = 2; slots = 3; stay = false; values = None ∷ None ∷ Some 7 ∷ None ∷ None ∷ Some 0 ∷ []; rules = Pair 0 1 (record { lo = neg_ℤ (pos 5); hi = neg_ℤ (pos 3) } ∷ record { lo = pos 3; hi = pos 5 } ∷ []) ∷ [] }
@@ -35,10 +32,6 @@ holes_out_of_reach = record { ships = 2; slots = 3; stay = false; values = None 
 -- both ships hold two of three tugs for three slots
 abbrev pub tugs : Problem
 tugs = record { ships = 2; slots = 6; stay = false; values = Some 0 ∷ Some 1 ∷ Some 5 ∷ Some 9 ∷ Some 5 ∷ Some 1 ∷ Some 0 ∷ Some 1 ∷ Some 5 ∷ Some 9 ∷ Some 5 ∷ Some 1 ∷ []; rules = Tugs 3 [] (record { ship = 0; tugs = 2; hold = 3 } ∷ record { ship = 1; tugs = 2; hold = 3 } ∷ []) ∷ [] }
-
--- no two slots fit, and the second ship may stay
-abbrev pub second_may_stay : Problem
-second_may_stay = record { ships = 2; slots = 4; stay = true; values = Some 10 ∷ Some 20 ∷ Some 30 ∷ None ∷ Some 10 ∷ Some 20 ∷ Some 30 ∷ Some 0 ∷ []; rules = Pair 0 1 (record { lo = neg_ℤ (pos 2); hi = pos 2 } ∷ []) ∷ [] }
 
 -- a room in which ship 0 has this range
 abbrev pub room_by_range : ℕ × ℕ → RoomModel
@@ -80,18 +73,18 @@ pub record RuleRows : Type 0 where
   pub first : beats 0 None ≡ true
   -- the same cargo
   pub same : beats 7 (Some 7) ≡ false
-  pub apart_fits_cargo : cargo ships_kept_apart (0 ∷ 2 ∷ []) ≡ Some 40
-  pub apart_fits : breach ships_kept_apart (0 ∷ 2 ∷ []) ≡ None
-  pub too_near_cargo : cargo ships_kept_apart (1 ∷ 2 ∷ []) ≡ Some 50
-  pub too_near : breach ships_kept_apart (1 ∷ 2 ∷ []) ≡ Some (2, None)
+  pub apart_fits_cargo : cargo two_apart (0 ∷ 2 ∷ []) ≡ Some 40
+  pub apart_fits : breach two_apart (0 ∷ 2 ∷ []) ≡ None
+  pub too_near_cargo : cargo two_apart (1 ∷ 2 ∷ []) ≡ Some 50
+  pub too_near : breach two_apart (1 ∷ 2 ∷ []) ≡ Some (2, None)
   pub no_value_cargo : cargo holes_out_of_reach (2 ∷ 0 ∷ []) ≡ None
   pub no_value : breach holes_out_of_reach (2 ∷ 0 ∷ []) ≡ Some (1, None)
   pub too_many_tugs_cargo : cargo tugs (0 ∷ 1 ∷ []) ≡ Some 1
   pub too_many_tugs : breach tugs (0 ∷ 1 ∷ []) ≡ Some (2, Some 1)
-  pub first_may_not_stay_cargo : cargo second_may_stay (3 ∷ 3 ∷ []) ≡ None
-  pub first_may_not_stay : breach second_may_stay (3 ∷ 3 ∷ []) ≡ Some (0, None)
-  pub second_stays_cargo : cargo second_may_stay (1 ∷ 3 ∷ []) ≡ Some 20
-  pub second_stays : breach second_may_stay (1 ∷ 3 ∷ []) ≡ None
+  pub first_may_not_stay_cargo : cargo one_stays (3 ∷ 3 ∷ []) ≡ None
+  pub first_may_not_stay : breach one_stays (3 ∷ 3 ∷ []) ≡ Some (0, None)
+  pub second_stays_cargo : cargo one_stays (1 ∷ 3 ∷ []) ≡ Some 20
+  pub second_stays : breach one_stays (1 ∷ 3 ∷ []) ≡ None
   pub busy_in_0 : busy two_jobs (0 ∷ 1 ∷ []) 0 ≡ 2
   pub busy_in_1 : busy two_jobs (0 ∷ 1 ∷ []) 1 ≡ 4
   pub busy_in_2 : busy two_jobs (0 ∷ 1 ∷ []) 2 ≡ 4
@@ -110,7 +103,7 @@ pub record RuleRows : Type 0 where
   pub cut_load_2 : sum_by (forced_by (room_by_range (0, 1)) 2) both_jobs ≡ 2
   pub cut_load_3 : sum_by (forced_by (room_by_range (0, 1)) 3) both_jobs ≡ 0
   pub cut_room : cut (Before 0 2) (room_by_range (0, 5)) ≡ room_by_range (0, 1)
-  pub slots_0_and_2 : pair_holds ships_kept_apart near 0 2 ≡ true
-  pub slots_0_and_1 : pair_holds ships_kept_apart near 0 1 ≡ false
-  pub slots_1_and_1 : pair_holds ships_kept_apart near 1 1 ≡ false
-  pub slots_2_and_0 : pair_holds ships_kept_apart near 2 0 ≡ true
+  pub slots_0_and_2 : pair_holds two_apart near 0 2 ≡ true
+  pub slots_0_and_1 : pair_holds two_apart near 0 1 ≡ false
+  pub slots_1_and_1 : pair_holds two_apart near 1 1 ≡ false
+  pub slots_2_and_0 : pair_holds two_apart near 2 0 ≡ true

@@ -1,14 +1,10 @@
 -- A room read and set range by range and order by order, and slots inside, worked out by hand.
 use Rattle.std.specs.Prelude.{◌≡◌, true, false, ◌&&◌, nat_le}
 use Rattle.hw_model.specs.declared.order.Order.TheVariants.{Unset, First, NotFirst}
-use Rattle.hw_model.specs.declared.shape.Shape.{Shape}
 use Rattle.hw_model.specs.Narrowing.{with_range, with_order}
 use Rattle.hw_model.specs.Rooms.{RoomModel, whole_room, low_of, high_of, order_of, agrees}
 use Rattle.hw_flat.specs.Opened.{opened}
-
--- two ships and three slots
-abbrev pub shape_of_two_ships : Shape
-shape_of_two_ships = record { ships = 2; slots = 3; rules = 0 }
+use Rattle.hw_model_laws.specs.Rows.{shape_of_two_ships}
 
 -- the whole room
 abbrev pub whole_of_two_ships : RoomModel

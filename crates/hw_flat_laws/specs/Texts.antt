@@ -5,14 +5,11 @@ use Rattle.hw_model.specs.Problem.{Problem}
 use Rattle.hw_flat.specs.Demonstration.{demonstration}
 use Rattle.hw_flat.specs.Text.{flat_text}
 use Rattle.hw_flat.specs.TextWritten.{problem_text}
+use Rattle.hw_model_laws.specs.Rows.{two_apart}
 
 -- a ship with a value in two of three slots
 abbrev pub ship_of_two_values : Problem
 ship_of_two_values = record { ships = 1; slots = 3; stay = false; values = None ∷ Some 5 ∷ Some 9 ∷ []; rules = [] }
-
--- two ships two slots apart
-abbrev pub written_ships_apart : Problem
-written_ships_apart = record { ships = 2; slots = 3; stay = false; values = Some 10 ∷ Some 20 ∷ Some 30 ∷ Some 10 ∷ Some 20 ∷ Some 30 ∷ []; rules = Pair 0 1 (record { lo = neg_ℤ (pos 1); hi = pos 1 } ∷ []) ∷ [] }
 
 -- values, a gap, tugs and holds at their limits
 abbrev pub limits : Problem
@@ -42,8 +39,8 @@ repeated_fleet = record { ships = 1; slots = 3; stay = true; values = Some 5 ∷
 pub record ProblemRows : Type 0 where
   pub one_ship_read : flat_text (codes "flat 1\nsize 1 3\nv - 5 9\nend\n") ≡ Ok ship_of_two_values
   pub one_ship_written : problem_text ship_of_two_values ≡ codes "flat 1\nsize 1 3\nv - 5 9\nend\n"
-  pub two_apart_read : flat_text (codes "flat 1\nsize 2 3\nv 10 20 30\nv 10 20 30\np 0 1 -1:1\nend\n") ≡ Ok written_ships_apart
-  pub two_apart_written : problem_text written_ships_apart ≡ codes "flat 1\nsize 2 3\nv 10 20 30\nv 10 20 30\np 0 1 -1:1\nend\n"
+  pub two_apart_read : flat_text (codes "flat 1\nsize 2 3\nv 10 20 30\nv 10 20 30\np 0 1 -1:1\nend\n") ≡ Ok two_apart
+  pub two_apart_written : problem_text two_apart ≡ codes "flat 1\nsize 2 3\nv 10 20 30\nv 10 20 30\np 0 1 -1:1\nend\n"
   pub limits_read : flat_text (codes "flat 1\nsize 2 4\nv 0 1000000000000 - 4\nv 5 9 5 1\ns 1 0 512\nu 3 0:2:3 1:64:1024\nend\n") ≡ Ok limits
   pub limits_written : problem_text limits ≡ codes "flat 1\nsize 2 4\nv 0 1000000000000 - 4\nv 5 9 5 1\ns 1 0 512\nu 3 0:2:3 1:64:1024\nend\n"
   pub three_holes_read : flat_text (codes "flat 2\nsize 2 3\nv 10 20 30 n\nv 10 20 30 y\np 0 1 -1023:-2 0:0 2:1023\nend\n") ≡ Ok three_holes

@@ -1,5 +1,6 @@
 -- The texts of a 0-1 linear programme: the LP format, and the pseudo-Boolean format OPB.
 use Rattle.std.specs.Prelude.{ℕ, ◌+◌, ◌*◌, List, [], ◌∷◌, ◌++◌, codes, decimal, length}
+use Rattle.std.specs.List.{concat}
 use Rattle.hw_model.specs.Problem.{Problem}
 use Rattle.hw_flat_programme.specs.declared.format.Format.{Format}
 use Rattle.hw_flat_programme.specs.declared.format.Format.TheVariants.{Lp, Opb}
@@ -10,25 +11,21 @@ use Rattle.hw_flat_programme.specs.declared.format.Sense.TheVariants.{AtMost, Ex
 use Rattle.hw_flat_programme.specs.Programmes.{Term, Row, Programme}
 use Rattle.hw_flat_programme.specs.Rows.{most_from, programme_of}
 
-abbrev pub joined : List (List ℕ) → List ℕ
-joined [] = []
-joined (text ∷ texts) = text ++ joined texts
-
 -- ---- terms
 
 -- the name of a variable
 unfoldable pub name_text : ℕ → ℕ → List ℕ
-name_text ship slot = joined (codes " x_" ∷ decimal ship ∷ codes "_" ∷ decimal slot ∷ codes "\n" ∷ [])
+name_text ship slot = concat (codes " x_" ∷ decimal ship ∷ codes "_" ∷ decimal slot ∷ codes "\n" ∷ [])
 
 -- the number of a variable, from 1
 unfoldable pub numbered_variable : ℕ → ℕ → ℕ → List ℕ
-numbered_variable slots ship slot = joined (codes " x" ∷ decimal (ship * slots + slot + 1) ∷ codes " " ∷ [])
+numbered_variable slots ship slot = concat (codes " x" ∷ decimal (ship * slots + slot + 1) ∷ codes " " ∷ [])
 
 -- a term in a line of its own with its name, or with a sign and its number
 abbrev pub term_text : ℕ → Mark → Term → List ℕ
-term_text slots Named term = joined (codes " + " ∷ decimal term.weight ∷ name_text term.ship term.slot ∷ [])
-term_text slots Plus term = joined (codes "+" ∷ decimal term.weight ∷ numbered_variable slots term.ship term.slot ∷ [])
-term_text slots Minus term = joined (codes "-" ∷ decimal term.weight ∷ numbered_variable slots term.ship term.slot ∷ [])
+term_text slots Named term = concat (codes " + " ∷ decimal term.weight ∷ name_text term.ship term.slot ∷ [])
+term_text slots Plus term = concat (codes "+" ∷ decimal term.weight ∷ numbered_variable slots term.ship term.slot ∷ [])
+term_text slots Minus term = concat (codes "-" ∷ decimal term.weight ∷ numbered_variable slots term.ship term.slot ∷ [])
 
 abbrev pub terms_text : ℕ → Mark → List Term → List ℕ
 terms_text slots mark [] = []
@@ -59,7 +56,7 @@ after_bound Lp = codes "\n"
 after_bound Opb = codes " ;\n"
 
 unfoldable pub row_end : Format → Sense → ℕ → List ℕ
-row_end format sense bound = joined (before_bound format sense ∷ decimal bound ∷ after_bound format ∷ [])
+row_end format sense bound = concat (before_bound format sense ∷ decimal bound ∷ after_bound format ∷ [])
 
 abbrev pub linear_row_text : Format → ℕ → Row → List ℕ
 linear_row_text format slots row = terms_text slots (mark_of format row.sense) (with_a_term row.terms) ++ row_end format row.sense row.bound
@@ -80,17 +77,17 @@ variables_text [] = []
 variables_text (term ∷ terms) = name_text term.ship term.slot ++ variables_text terms
 
 abbrev pub lp_of : ℕ → Programme → List ℕ
-lp_of slots programme = joined (codes "Maximize\n cargo:\n" ∷ sum_text Lp slots (with_a_term programme.objective) ∷ codes "Subject To\n" ∷ rows_text Lp slots programme.rows ∷ codes "Binary\n" ∷ variables_text programme.objective ∷ codes "End\n" ∷ [])
+lp_of slots programme = concat (codes "Maximize\n cargo:\n" ∷ sum_text Lp slots (with_a_term programme.objective) ∷ codes "Subject To\n" ∷ rows_text Lp slots programme.rows ∷ codes "Binary\n" ∷ variables_text programme.objective ∷ codes "End\n" ∷ [])
 
 -- how many variables and rows there are, which variable has which number, and from what the least sum is taken
 unfoldable pub opb_head : ℕ → ℕ → List ℕ
-opb_head variables rows = joined (codes "* #variable= " ∷ decimal variables ∷ codes " #constraint= " ∷ decimal rows ∷ codes "\n" ∷ [])
+opb_head variables rows = concat (codes "* #variable= " ∷ decimal variables ∷ codes " #constraint= " ∷ decimal rows ∷ codes "\n" ∷ [])
 
 unfoldable pub opb_notes : ℕ → ℕ → List ℕ
-opb_notes slots top = joined (codes "* ship V has slot K: x(V * " ∷ decimal slots ∷ codes " + K + 1)\n* cargo: " ∷ decimal top ∷ codes " less this sum\n" ∷ [])
+opb_notes slots top = concat (codes "* ship V has slot K: x(V * " ∷ decimal slots ∷ codes " + K + 1)\n* cargo: " ∷ decimal top ∷ codes " less this sum\n" ∷ [])
 
 abbrev pub opb_of : ℕ → ℕ → ℕ → Programme → List ℕ
-opb_of ships slots top programme = joined (opb_head (ships * slots) (length programme.rows) ∷ opb_notes slots top ∷ codes "min: " ∷ sum_text Opb slots (with_a_term programme.objective) ∷ codes ";\n" ∷ rows_text Opb slots programme.rows ∷ [])
+opb_of ships slots top programme = concat (opb_head (ships * slots) (length programme.rows) ∷ opb_notes slots top ∷ codes "min: " ∷ sum_text Opb slots (with_a_term programme.objective) ∷ codes ";\n" ∷ rows_text Opb slots programme.rows ∷ [])
 
 -- the problem in the LP format
 unfoldable pub lp_text : Problem → List ℕ

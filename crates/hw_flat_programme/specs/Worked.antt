@@ -1,12 +1,13 @@
 -- Small problems, and their programmes and texts worked out by hand.
 use Rattle.std.specs.Prelude.{◌≡◌, ℕ, pos, neg_ℤ, true, false, List, [], ◌∷◌, Some, None, codes}
+use Rattle.std.specs.List.{concat}
 use Rattle.hw_model.specs.declared.rule.Rule.TheVariants.{Pair, After, Tugs}
 use Rattle.hw_model.specs.declared.rule.Step.{Step}
 use Rattle.hw_model.specs.Problem.{Problem}
 use Rattle.hw_flat_programme.specs.declared.format.Sense.TheVariants.{AtMost, Exactly}
 use Rattle.hw_flat_programme.specs.Programmes.{Term, Row}
 use Rattle.hw_flat_programme.specs.Rows.{rows_of, rules_rows}
-use Rattle.hw_flat_programme.specs.Texts.{lp_text, opb_text, joined}
+use Rattle.hw_flat_programme.specs.Texts.{lp_text, opb_text}
 
 -- a term of weight 1
 abbrev pub single_term : ℕ → ℕ → Term
@@ -63,6 +64,6 @@ pub record WorkedRows : Type 0 where
 
 -- the texts of two of them
 pub record WorkedTexts : Type 0 where
-  pub two_apart_lp : lp_text ships_apart_with_gap ≡ joined (codes "Maximize\n cargo:\n + 10 x_0_0\n + 20 x_0_1\n + 30 x_0_2\n + 10 x_1_0\n + 30 x_1_2\nSubject To\n" ∷ codes " + 1 x_0_0\n + 1 x_0_1\n + 1 x_0_2\n = 1\n + 1 x_1_0\n + 1 x_1_2\n = 1\n + 1 x_0_0\n + 1 x_1_0\n <= 1\n" ∷ codes " + 1 x_0_0\n + 1 x_0_1\n + 1 x_1_0\n <= 1\n + 1 x_0_1\n + 1 x_0_2\n + 1 x_1_2\n <= 1\n + 1 x_0_2\n + 1 x_1_2\n <= 1\n" ∷ codes "Binary\n x_0_0\n x_0_1\n x_0_2\n x_1_0\n x_1_2\nEnd\n" ∷ [])
-  pub two_apart_opb : opb_text ships_apart_with_gap ≡ joined (codes "* #variable= 6 #constraint= 6\n* ship V has slot K: x(V * 3 + K + 1)\n* cargo: 60 less this sum\nmin: +20 x1 +10 x2 +0 x3 +20 x4 +0 x6 ;\n" ∷ codes "+1 x1 +1 x2 +1 x3 = 1 ;\n+1 x4 +1 x6 = 1 ;\n-1 x1 -1 x4 >= -1 ;\n-1 x1 -1 x2 -1 x4 >= -1 ;\n-1 x2 -1 x3 -1 x6 >= -1 ;\n-1 x3 -1 x6 >= -1 ;\n" ∷ [])
+  pub two_apart_lp : lp_text ships_apart_with_gap ≡ concat (codes "Maximize\n cargo:\n + 10 x_0_0\n + 20 x_0_1\n + 30 x_0_2\n + 10 x_1_0\n + 30 x_1_2\nSubject To\n" ∷ codes " + 1 x_0_0\n + 1 x_0_1\n + 1 x_0_2\n = 1\n + 1 x_1_0\n + 1 x_1_2\n = 1\n + 1 x_0_0\n + 1 x_1_0\n <= 1\n" ∷ codes " + 1 x_0_0\n + 1 x_0_1\n + 1 x_1_0\n <= 1\n + 1 x_0_1\n + 1 x_0_2\n + 1 x_1_2\n <= 1\n + 1 x_0_2\n + 1 x_1_2\n <= 1\n" ∷ codes "Binary\n x_0_0\n x_0_1\n x_0_2\n x_1_0\n x_1_2\nEnd\n" ∷ [])
+  pub two_apart_opb : opb_text ships_apart_with_gap ≡ concat (codes "* #variable= 6 #constraint= 6\n* ship V has slot K: x(V * 3 + K + 1)\n* cargo: 60 less this sum\nmin: +20 x1 +10 x2 +0 x3 +20 x4 +0 x6 ;\n" ∷ codes "+1 x1 +1 x2 +1 x3 = 1 ;\n+1 x4 +1 x6 = 1 ;\n-1 x1 -1 x4 >= -1 ;\n-1 x1 -1 x2 -1 x4 >= -1 ;\n-1 x2 -1 x3 -1 x6 >= -1 ;\n-1 x3 -1 x6 >= -1 ;\n" ∷ [])
   pub nowhere_lp : lp_text stranded_ship ≡ codes "Maximize\n cargo:\n + 0 x_0_0\nSubject To\n + 0 x_0_0\n = 1\nBinary\nEnd\n"

@@ -8,7 +8,8 @@ use Rattle.hw_model_laws.proofs.Sound.{value_le}
 use Rattle.hw_model_laws.proofs.Within.{range_le}
 use Rattle.hw_goal.specs.declared.tops.Peak.{Peak}
 use Rattle.hw_goal.specs.declared.tops.Top.{Top}
-use Rattle.hw_goal.specs.Kept.{worth, IsPeak, IsTop}
+use Rattle.hw_flat.specs.Carried.{worth}
+use Rattle.hw_goal.specs.Kept.{IsPeak, IsTop}
 
 -- what bounds each value of a range bounds the greatest
 pub greatest_le : (f : Problem) (ship low high most : ℕ) → ((slot : ℕ) → low ≤ slot → slot ≤ high → worth f ship slot ≤ most) → greatest_value f ship low high ≤ most

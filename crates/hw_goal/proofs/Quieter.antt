@@ -10,7 +10,8 @@ use Rattle.hw_prop.specs.declared.reduction.Reduction.{Reduction}
 use Rattle.hw_prop.specs.declared.reduction.Reduction.TheVariants.{Here, Lowest, Highest, First, NotFirst}
 use Rattle.hw_prop.specs.Reductions.{IsQuiet, IsCut, reduced}
 use Rattle.hw_goal.specs.declared.tops.Figures.{Figures}
-use Rattle.hw_goal.specs.Kept.{worth, AreKept, SeenIn, top_at}
+use Rattle.hw_flat.specs.Carried.{worth}
+use Rattle.hw_goal.specs.Kept.{AreKept, SeenIn, top_at}
 use Rattle.hw_goal.specs.Calm.{CalmAt, CutAt}
 use Rattle.hw_goal.proofs.Greatest.{top_value}
 use Rattle.hw_goal.proofs.Sums.{kept_sum}

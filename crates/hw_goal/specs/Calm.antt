@@ -4,7 +4,7 @@ use Rattle.hw_model.specs.Problem.{Problem}
 use Rattle.hw_prop.specs.declared.reduction.Reduction.{Reduction}
 use Rattle.hw_prop.specs.declared.reduction.Reduction.TheVariants.{Here, Lowest, Highest, First, NotFirst}
 use Rattle.hw_goal.specs.declared.tops.Top.{Top}
-use Rattle.hw_goal.specs.Kept.{worth}
+use Rattle.hw_flat.specs.Carried.{worth}
 
 -- the sum stays above the best with the ship at either end of its range
 pub record CalmAt (f : Problem) (best sum ship : ℕ) (top : Top) : Type 0 where

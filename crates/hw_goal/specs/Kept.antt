@@ -1,15 +1,12 @@
 -- What is kept of the ships' greatest values.
-use Rattle.std.specs.Prelude.{◌≡◌, ◌⊎◌, ℕ, ◌<◌, ◌≤◌, List, length, sum_by, slice_index_or, unwrap_or}
+use Rattle.std.specs.Prelude.{◌≡◌, ◌⊎◌, ℕ, ◌<◌, ◌≤◌, List, length, sum_by, slice_index_or}
 use Rattle.hw_model.specs.declared.limits.TheConstants.{MOST_VALUE}
-use Rattle.hw_model.specs.Problem.{Problem, value_at}
+use Rattle.hw_model.specs.Problem.{Problem}
 use Rattle.hw_model.specs.Rooms.{RoomModel, low_of, high_of}
+use Rattle.hw_flat.specs.Carried.{worth}
 use Rattle.hw_goal.specs.declared.tops.Peak.{Peak}
 use Rattle.hw_goal.specs.declared.tops.Top.{Top}
 use Rattle.hw_goal.specs.declared.tops.Figures.{Figures}
-
--- the value of a ship in a slot, 0 where it has none
-abbrev pub worth : Problem → ℕ → ℕ → ℕ
-worth f ship slot = unwrap_or (value_at f ship slot) 0
 
 -- a slot of the range that has its greatest value
 pub record IsPeak (f : Problem) (ship low high : ℕ) (peak : Peak) : Type 0 where

@@ -8,11 +8,11 @@ ghost use Rattle.hw_model.specs.Rooms.{RoomModel, whole_room};
 ghost use Rattle.hw_model.specs.Refuting.{greatest_sum};
 
 use crate::stepping::{Known, goal_step};
-use crate::tops::{Figures, see_all, see_cut, whole_figures};
+use crate::tops::{Figures, see_all, whole_figures};
 use hw_flat::{Flat, Room, ShipId, Source};
 use hw_lits::Found;
-use hw_model::{Lit, NoMemory};
-use hw_prop::Propagator;
+use hw_model::NoMemory;
+use hw_prop::{Propagator, all_ships};
 use std::alloc::Global;
 
 /// The goal: more cargo than the best. It keeps each ship's greatest value in its range, and
@@ -22,16 +22,6 @@ pub struct GoalBound {
     figures: Figures,
     ships: Vec<ShipId>,
     denied: Room,
-}
-
-fn all_ships(alloc: Global, ships: u32) -> Result<Vec<ShipId>, NoMemory>
-    ensures value { IfOk result (λ all. all.items ≡ range_with_len 0 ships) }
-{
-    let mut all = Vec::new(alloc);
-    for ship in 0..ships {
-        all.push(ship)?;
-    }
-    Ok(all)
 }
 
 impl GoalBound {
@@ -94,10 +84,6 @@ impl Propagator for GoalBound {
             ships: &self.ships,
         };
         goal_step(alloc, &known, best, room, &mut self.denied)
-    }
-
-    fn changed(&mut self, flat: &Flat, before: &Room, lit: Lit) {
-        see_cut(&mut self.figures, flat, before, lit);
     }
 
     fn undone(&mut self, flat: &Flat, room: &Room) {

@@ -7,7 +7,7 @@ ghost use Rattle.hw_prop.specs.Reductions.{IsQuiet, IsCut};
 ghost use Rattle.hw_goal.specs.Kept.{IsTop, AreKept, SeenIn};
 ghost use Rattle.hw_goal.specs.Calm.{CalmAt, CutAt};
 
-use crate::tops::{Figures, Top, worth};
+use crate::tops::{Figures, Top};
 use hw_flat::{Flat, Room, ShipId};
 use hw_model::MOST_CARGO;
 use hw_prop::Reduction;
@@ -20,10 +20,10 @@ fn ship_cut(flat: &Flat, ship: ShipId, top: Top, sum: u64, best: u64) -> Option<
     ensures { MatchOption result (CalmAt flat.now best sum ship top) (CutAt flat.now best sum ship top) }
 {
     let others = sum - top.peak.value;
-    if others + worth(flat, ship, top.low) <= best {
+    if others + flat.worth(ship, top.low) <= best {
         return Some(Reduction::Lowest { ship });
     }
-    if others + worth(flat, ship, top.high) <= best {
+    if others + flat.worth(ship, top.high) <= best {
         return Some(Reduction::Highest { ship });
     }
     None

@@ -1,15 +1,11 @@
 //! The greatest value of each ship in the range that it was last seen with, and their sum.
 ghost use Rattle.std.specs.Prelude.{◌≡◌, ◌≢◌, ◌≤◌, ◌<◌, ℕ, IfOk};
 ghost use Rattle.hw_model.specs.Problem.{shape_of};
-ghost use Rattle.hw_model.specs.Lits.{IsLitOf};
-ghost use Rattle.hw_model.specs.declared.lit.LitTruth.TheVariants.{Free};
-ghost use Rattle.hw_model.specs.Narrowing.{truth, cut};
 ghost use Rattle.hw_model.specs.Rooms.{RoomFits, low_of, high_of, whole_room};
-ghost use Rattle.hw_goal.specs.Kept as kept;
 ghost use Rattle.hw_goal.specs.Kept.{IsPeak, IsHigher, IsTop, top_at, AreKept, SeenAt, SeenIn};
 
 use hw_flat::{Flat, Room, ShipId, Slot};
-use hw_model::{Lit, MOST_VALUE, NoMemory};
+use hw_model::{MOST_VALUE, NoMemory};
 use std::alloc::Global;
 
 /// A slot and its value, in tenths of a tonne; none counts 0.
@@ -35,16 +31,6 @@ pub struct Figures {
     pub sum: u64,
 }
 
-/// The value of a ship in a slot, 0 where it has none.
-pub(crate) fn worth(flat: &Flat, ship: ShipId, slot: Slot) -> u64
-    requires ship_in { ship < flat.now.ships }
-    requires slot_in { slot < flat.now.slots }
-    ensures value { result ≡ kept.worth flat.now ship slot }
-    ensures small { result ≤ MOST_VALUE }
-{
-    flat.value(ship, slot).unwrap_or(0)
-}
-
 fn higher(one: Peak, other: Peak) -> Peak
     ensures { IsHigher one other result }
 {
@@ -62,13 +48,13 @@ fn peak_of(flat: &Flat, ship: ShipId, low: Slot, high: Slot) -> Peak
     let mut at = high;
     let mut peak = Peak {
         slot: at,
-        value: worth(flat, ship, at),
+        value: flat.worth(ship, at),
     };
     while low < at {
         at -= 1;
         let here = Peak {
             slot: at,
-            value: worth(flat, ship, at),
+            value: flat.worth(ship, at),
         };
         peak = higher(here, peak);
     }
@@ -133,23 +119,6 @@ pub(crate) fn see_all(figures: &mut Figures, flat: &Flat, room: &Room)
 {
     for ship in 0..flat.shape().ships {
         see(figures, flat, ship, room.low(ship), room.high(ship));
-    }
-}
-
-/// Sees the ship whose range is cut by a literal, if it is one of a range.
-pub(crate) fn see_cut(figures: &mut Figures, flat: &Flat, before: &Room, lit: Lit)
-    requires kept { AreKept flat.now flat.now.ships figures.old }
-    requires room { RoomFits flat.now before.now }
-    requires seen { SeenIn before.now flat.now.ships figures.old }
-    requires fits { IsLitOf flat.now.ships lit }
-    requires free { truth before.now lit ≡ Free }
-    ensures kept { AreKept flat.now flat.now.ships figures.new }
-    ensures seen { SeenIn (cut lit before.now) flat.now.ships figures.new }
-{
-    match lit {
-        Lit::AtOrAfter { ship, slot } => see(figures, flat, ship, slot, before.high(ship)),
-        Lit::Before { ship, slot } => see(figures, flat, ship, before.low(ship), slot - 1),
-        Lit::First { .. } | Lit::NotFirst { .. } => {}
     }
 }
 

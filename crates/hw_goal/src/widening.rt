@@ -5,10 +5,10 @@ ghost use Rattle.hw_model.specs.Rooms.{low_of, high_of};
 ghost use Rattle.hw_model.specs.Refuting as refuting;
 ghost use Rattle.hw_prop.specs.Explains.{Explains};
 ghost use Rattle.hw_prop.specs.Reductions.{IsReduction, edge_of};
-ghost use Rattle.hw_goal.specs.Kept as kept;
 ghost use Rattle.hw_goal.specs.Kept.{IsTop, AreKept};
+ghost use Rattle.hw_flat.specs.Carried.{worth};
 
-use crate::tops::{Figures, Top, worth};
+use crate::tops::{Figures, Top};
 use hw_flat::{Flat, Room, ShipId, Slot};
 use hw_model::{MOST_CARGO, MOST_VALUE};
 use hw_prop::Reduction;
@@ -94,11 +94,11 @@ fn lowest_within(flat: &Flat, ship: ShipId, low: Slot, most: u64) -> Slot
     requires ship_in { ship < flat.now.ships }
     requires slot_in { low < flat.now.slots }
     ensures below { result ≤ low }
-    ensures within { (slot : ℕ) → result ≤ slot → slot < low → kept.worth flat.now ship slot ≤ most }
+    ensures within { (slot : ℕ) → result ≤ slot → slot < low → worth flat.now ship slot ≤ most }
 {
     let mut at = low;
     while 0 < at {
-        if most < worth(flat, ship, at - 1) {
+        if most < flat.worth(ship, at - 1) {
             return at;
         }
         at -= 1;
@@ -112,12 +112,12 @@ fn highest_within(flat: &Flat, ship: ShipId, high: Slot, most: u64) -> Slot
     requires slot_in { high < flat.now.slots }
     ensures above { high ≤ result }
     ensures slot_in { result < flat.now.slots }
-    ensures within { (slot : ℕ) → high < slot → slot ≤ result → kept.worth flat.now ship slot ≤ most }
+    ensures within { (slot : ℕ) → high < slot → slot ≤ result → worth flat.now ship slot ≤ most }
 {
     let last = flat.shape().slots - 1;
     let mut at = high;
     while at < last {
-        if most < worth(flat, ship, at + 1) {
+        if most < flat.worth(ship, at + 1) {
             return at;
         }
         at += 1;

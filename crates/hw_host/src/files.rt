@@ -5,7 +5,7 @@ ghost use Rattle.hw_desk.specs.State.{Rose};
 ghost use Rattle.hw_host.specs.Opened.{IsApart, IsFeed, IsFoundFeed, IsOpen, IsOpenAs, IsOther, IsPlanFeed, IsProblem, was_opened};
 
 use crate::output::Output;
-use hw_desk::{DeskFailed, Feeds};
+use hw_desk::{DeskFailed, Feeds, failed};
 use std::fs::{File, Metadata, OpenOptions};
 use std::io::{ErrorKind, Read, Write};
 use std::os::unix::fs::MetadataExt;
@@ -117,15 +117,6 @@ fn make_file(
         file.set_len(0)?;
     }
     Ok(HostFile::Open { file, id })
-}
-
-/// Counts a fault.
-pub fn failed(faults: &mut u64) -> DeskFailed
-    ensures later { faults.old ≤ faults.new }
-    ensures cause { Rose faults.old faults.new }
-{
-    *faults = faults.saturating_add(1);
-    DeskFailed
 }
 
 /// Opens the file of a feed, or counts a fault.

@@ -1,2 +1,2 @@
-//! Lemmas on truth values, numbers and lists that the proofs of several crates cite, and two operators of their definitions. There is no code here.
+//! Lemmas on truth values, numbers and lists that the proofs of several crates cite, and two operators and a test of their definitions. There is no code here.
 #![tactic(auto)]

@@ -1,7 +1,8 @@
 -- What one step of a replay tells of the literals of a clause.
-use Rattle.std.specs.Prelude.{◌≡◌, ◌≢◌, ℕ, ◌<◌, List, Some, All, IfSome, IsTrue, slice_get}
+use Rattle.std.specs.Prelude.{◌≡◌, ◌≢◌, ℕ, ◌<◌, List, Some, All, IfSome, IsTrue, slice_get, Bool, true, false}
 use Rattle.hw_model.specs.declared.lit.Lit.{Lit}
-use Rattle.hw_model.specs.declared.lit.LitTruth.TheVariants.{False, Free}
+use Rattle.hw_model.specs.declared.lit.LitTruth.{LitTruth}
+use Rattle.hw_model.specs.declared.lit.LitTruth.TheVariants.{True, False, Free}
 use Rattle.hw_model.specs.declared.narrowing.Narrowed.{Narrowed}
 use Rattle.hw_model.specs.declared.narrowing.Narrowed.TheVariants.{Same, Cut, Conflict, Loose}
 use Rattle.hw_model.specs.Rooms.{RoomModel}
@@ -14,6 +15,12 @@ pub record IsUnit (room : RoomModel) (clause : List Lit) (lit : Lit) : Type 0 wh
   pub stands : slice_get clause place ≡ Some lit
   pub free : truth room lit ≡ Free
   pub others : (other : ℕ) → other ≢ place → IfSome (slice_get clause other) (λ l. truth room l ≡ False)
+
+-- the room makes the literal False
+abbrev pub is_false : LitTruth → Bool
+is_false True = false
+is_false False = true
+is_false Free = false
 
 -- all literals are False
 abbrev pub AllFalse : RoomModel → List Lit → Type 0

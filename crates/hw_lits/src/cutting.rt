@@ -1,11 +1,21 @@
 //! What a room says of a literal, and a room cut by one.
 
-ghost use Rattle.std.specs.Prelude.{◌≡◌};
+ghost use Rattle.std.specs.Prelude.{◌≡◌, ◌↔◌, IsTrue};
 ghost use Rattle.hw_model.specs.Narrowing.{truth, cut, first_truth, not_first_truth, set_by};
 ghost use Rattle.hw_model.specs.Lits.{IsLitOf};
 
 use hw_flat::{Order, Room};
 use hw_model::{Lit, LitTruth};
+
+/// Whether the literal is one of a problem of this many ships, which may have any number of slots.
+pub fn is_lit_of(ships: u32, lit: Lit) -> bool
+    ensures { IsTrue result ↔ IsLitOf ships lit }
+{
+    match lit {
+        Lit::AtOrAfter { ship, slot } | Lit::Before { ship, slot } => ship < ships && slot >= 1,
+        Lit::First { v, w } | Lit::NotFirst { v, w } => v < w && w < ships,
+    }
+}
 
 /// What a room says of a literal, by the one range or order that it names.
 pub fn truth(lit: Lit, room: &Room) -> LitTruth

@@ -13,7 +13,7 @@ mod spelling;
 mod stepping;
 
 pub use clause::{Clause, MOST_LITERALS};
-pub use cutting::{cut, truth};
+pub use cutting::{cut, is_lit_of, truth};
 pub use denying::deny;
 pub use fault::ClauseFault;
 pub use found::Found;

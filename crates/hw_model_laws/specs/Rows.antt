@@ -4,6 +4,7 @@ use Rattle.hw_model.specs.declared.order.Order.{Order}
 use Rattle.hw_model.specs.declared.order.Order.TheVariants.{Unset, First, NotFirst}
 use Rattle.hw_model.specs.declared.rule.Rule.TheVariants.{Pair, After, Tugs}
 use Rattle.hw_model.specs.declared.source.Source.TheVariants as sources
+use Rattle.hw_model.specs.declared.shape.Shape.{Shape}
 use Rattle.hw_model.specs.Problem.{Problem}
 use Rattle.hw_model.specs.Rooms.{RoomModel, room_count}
 use Rattle.hw_model.specs.Quiet.{QuietSource}
@@ -19,6 +20,10 @@ room_from_to low high = record { ships = 1; slots = 4; ranges = (low, high) ∷ 
 -- two ships that sail two slots apart: in the first and the last slot
 abbrev pub two_apart : Problem
 two_apart = record { ships = 2; slots = 3; stay = false; values = Some 10 ∷ Some 20 ∷ Some 30 ∷ Some 10 ∷ Some 20 ∷ Some 30 ∷ []; rules = Pair 0 1 (record { lo = neg_ℤ (pos 1); hi = pos 1 } ∷ []) ∷ [] }
+
+-- the shape of two ships and three slots, without rules
+abbrev pub shape_of_two_ships : Shape
+shape_of_two_ships = record { ships = 2; slots = 3; rules = 0 }
 
 -- the second ship sails two slots after the first
 abbrev pub precedence : Problem

@@ -1,14 +1,15 @@
 -- Slots of a text one after the other, as a loop reads them.
 use Rattle.std.proofs.Common.{◌≡◌, ℕ, suc, ◌-◌, ◌+◌, ◌<◌, List, [], ◌∷◌, ◌++◌, Option, Some, None, All, refl, sym, ap, ◌∙◌, append_assoc, arith}
 use Rattle.std.proofs.lemmas.List.Elements.{All-push}
-use Rattle.hw_plan_texts.specs.Slots.{put_value_first, slot_form, slots_form}
+use Rattle.hw_plan_texts.specs.Slots.{slot_form, slots_form}
+use Rattle.hw_text.specs.Parts.{put_first}
 
 -- the items in front and those after them, where there are any
 abbrev pub with_front : {A : Type 0} → List A → Option (List A) → Option (List A)
 with_front front None = None
 with_front front (Some xs) = Some (front ++ xs)
 
-pub regroup : {A : Type 0} (front : List A) (x : A) (more : Option (List A)) → with_front front (put_value_first (Some x) more) ≡ with_front (front ++ x ∷ []) more
+pub regroup : {A : Type 0} (front : List A) (x : A) (more : Option (List A)) → with_front front (put_first (Some x) more) ≡ with_front (front ++ x ∷ []) more
 regroup front x None = refl
 regroup {A} front x (Some xs) = ap (λ (ys : List A). Some ys) (sym (append_assoc front (x ∷ []) xs))
 

@@ -1,5 +1,6 @@
 -- The text of a date and a time, as 2027-03-27 15:00: the year 1970 to 9999, a day that exists, hours and minutes.
 use Rattle.std.specs.Prelude.{ℕ, ◌+◌, ◌-◌, ◌*◌, ◌%◌, ◌&&◌, ◌||◌, List, length, Bool, not, nat_eq, nat_le, nat_lt, slice_index, if◌then◌else◌}
+use Rattle.hw_text.specs.Numbers.{is_digit}
 
 -- every fourth year is a leap year, but of the years that 100 divides only those that 400 divides
 abbrev pub is_leap : ℕ → Bool
@@ -16,9 +17,6 @@ days_of_month year month = if nat_eq month 2 then (if is_leap year then 29 else 
 -- a day that exists
 abbrev pub is_day : ℕ → ℕ → ℕ → Bool
 is_day year month day = nat_le 1970 year && (nat_le 1 month && nat_le month 12) && (nat_le 1 day && nat_le day (days_of_month year month))
-
-abbrev pub is_digit : ℕ → Bool
-is_digit b = nat_le 48 b && nat_le b 57
 
 -- two digits stand at a place of the text, and the next one
 abbrev pub are_digits : List ℕ → ℕ → Bool

@@ -20,3 +20,5 @@ pub use parts::{
 };
 pub use places::{Place, text_at_number};
 pub use port::Port;
+pub use rules::is_name;
+pub use starts::{days_of_month, pair_at};

@@ -1,7 +1,8 @@
 //! The text of a date and a time.
 
 ghost use Rattle.std.specs.Prelude.{◌≡◌, ◌≤◌, ◌<◌, ◌+◌, length};
-ghost use Rattle.hw_port.specs.Starts.{is_leap as leap, days_of_month as month_days, is_day as day_there, is_digit as digit, are_digits as digits_at, pair_at, year_of, has_digits as digits_in, has_marks as marks_in, is_start as starts};
+ghost use Rattle.hw_text.specs.Numbers.{is_digit as digit};
+ghost use Rattle.hw_port.specs.Starts.{is_leap as leap, days_of_month as month_days, is_day as day_there, are_digits as digits_at, pair_at, year_of, has_digits as digits_in, has_marks as marks_in, is_start as starts};
 
 fn is_leap(year: u32) -> bool
     ensures { result ≡ leap year }
@@ -9,8 +10,10 @@ fn is_leap(year: u32) -> bool
     year % 4 == 0 && (year % 100 != 0 || year % 400 == 0)
 }
 
-fn days_of_month(year: u32, month: u32) -> u32
-    ensures { result ≡ month_days year month }
+/// The days of a month, counted from 1, of a year.
+pub fn days_of_month(year: u32, month: u32) -> u32
+    ensures value { result ≡ month_days year month }
+    ensures few { result ≤ 31 }
 {
     match month {
         2 => { if is_leap(year) { 29 } else { 28 } }
@@ -38,8 +41,8 @@ fn are_digits(text: &[u8], place: usize) -> bool
     is_digit(text[place]) && is_digit(text[place + 1])
 }
 
-/// The number that two digits spell.
-fn pair(text: &[u8], place: usize) -> u32
+/// The number that two digits of a text spell, the first one at this place.
+pub fn pair_at(text: &[u8], place: usize) -> u32
     requires { place + 1 < length text.now }
     ensures value { result ≡ pair_at text.now place }
     ensures few { result ≤ 2277 }
@@ -73,8 +76,8 @@ fn has_day(text: &[u8]) -> bool
     requires { length text.now ≡ 16 }
     ensures { result ≡ day_there (year_of text.now) (pair_at text.now 5) (pair_at text.now 8) }
 {
-    let year = 100 * pair(text, 0) + pair(text, 2);
-    is_day(year, pair(text, 5), pair(text, 8))
+    let year = 100 * pair_at(text, 0) + pair_at(text, 2);
+    is_day(year, pair_at(text, 5), pair_at(text, 8))
 }
 
 /// Whether a text is that of a date and a time, as `2027-03-27 15:00`. It takes no memory.
@@ -84,5 +87,5 @@ pub fn is_start(text: &[u8]) -> bool
     text.len() == 16
         && (has_digits(text)
             && has_marks(text)
-            && (has_day(text) && (pair(text, 11) < 24 && pair(text, 14) < 60)))
+            && (has_day(text) && (pair_at(text, 11) < 24 && pair_at(text, 14) < 60)))
 }

@@ -1,72 +1,11 @@
--- A small port, with plans of its two ships, worked out by hand: one goes out over a bar, and one comes in over it.
-use Rattle.std.specs.Prelude.{◌≡◌, ℕ, pos, ℤ, List, [], ◌∷◌, ◌++◌, Some, None, false, codes}
+-- Plans of the two ships of a small port, worked out by hand: one goes out over a bar, and one comes in over it.
+use Rattle.std.specs.Prelude.{◌≡◌, ℕ, pos, List, [], ◌∷◌, ◌++◌, Some, None, codes}
 use Rattle.csv.specs.Writing.{default_writer, field_text}
-use Rattle.hw_port.specs.Parts.{ShipParts}
 use Rattle.hw_port.specs.Whole.{Parts}
-use Rattle.hw_tide.specs.Levels.{TideParts}
 use Rattle.hw_port_csv.specs.Fields.{tonnes_text}
 use Rattle.hw_port_csv.specs.Passes.{offset_at}
 use Rattle.hw_port_csv.specs.Tables.{whole_table_text}
-
--- the ship that goes out, with this full draft
-abbrev pub ada : ℤ → ShipParts
-ada deep = record {
-  name = codes "Ada";
-  direction = codes "outgoing";
-  class = pos 0;
-  earliest = pos 0;
-  latest = pos 4;
-  tpc = pos 100;
-  light = pos 1_050;
-  deep = deep;
-  route = record { waypoint = pos 0; offset = pos 0; clearance = pos 50 } ∷ record { waypoint = pos 1; offset = pos 1; clearance = pos 100 } ∷ [];
-  channel = record { section = pos 0; enter = pos 0; leave = pos 3 } ∷ [];
-  tugs = pos 2;
-  job = pos 2;
-  may_stay = false;
-  closed = [];
-}
-
--- the ship that comes in
-abbrev pub gull : ShipParts
-gull = record {
-  name = codes "Gull";
-  direction = codes "incoming";
-  class = pos 1;
-  earliest = pos 1;
-  latest = pos 5;
-  tpc = pos 100;
-  light = pos 1_100;
-  deep = pos 1_100;
-  route = record { waypoint = pos 1; offset = pos 0; clearance = pos 100 } ∷ record { waypoint = pos 0; offset = pos 2; clearance = pos 50 } ∷ [];
-  channel = record { section = pos 0; enter = pos 1; leave = pos 2 } ∷ [];
-  tugs = pos 2;
-  job = pos 1;
-  may_stay = false;
-  closed = [];
-}
-
-abbrev pub table_example_port : ℤ → Parts
-table_example_port deep = record {
-  version = pos 1;
-  start = None;
-  slots = pos 6;
-  slot_minutes = pos 30;
-  heights = codes "start";
-  closed = [];
-  waypoints = record { name = codes "Berth"; depth = pos 1_300; closed = [] } ∷ record { name = codes "Bar"; depth = pos 1_000; closed = [] } ∷ [];
-  sections = record { name = codes "Cut" } ∷ [];
-  separation = (pos 2 ∷ pos 4 ∷ []) ∷ (pos 1 ∷ pos 3 ∷ []) ∷ [];
-  turnaround = record { outgoing = pos 1; incoming = pos 0 };
-  fleet = pos 3;
-  ships = ada deep ∷ gull ∷ [];
-  berths = record { outgoing = pos 0; incoming = pos 1; clear = pos 1 } ∷ [];
-  after = [];
-}
-
--- seven slots
-abbrev pub tide : TideParts
-tide = record { rows = 7; columns = 2; heights = pos 100 ∷ pos 100 ∷ pos 160 ∷ pos 180 ∷ pos 220 ∷ pos 240 ∷ pos 240 ∷ pos 260 ∷ pos 200 ∷ pos 220 ∷ pos 140 ∷ pos 140 ∷ pos 80 ∷ pos 90 ∷ [] }
+use Rattle.hw_port_windows.specs.Rows.{gull, example_port, tide}
 
 -- the first line of each
 abbrev pub head_line : List ℕ
@@ -74,11 +13,11 @@ head_line = codes "ship,name,direction,slot,time,draft cm,allowed draft cm,limit
 
 -- the rest of the table of two slots
 abbrev pub TableTellsSlots : ℕ → ℕ → List ℕ → Type 0
-TableTellsSlots first second text = whole_table_text (table_example_port (pos 1_150)) tide (Some (first ∷ second ∷ [])) ≡ head_line ++ text
+TableTellsSlots first second text = whole_table_text (example_port (pos 1_150)) tide (Some (first ∷ second ∷ [])) ≡ head_line ++ text
 
 -- the same where the port says when slot 0 begins
 abbrev pub dated : Parts
-dated = record (table_example_port (pos 1_150)) { version = pos 3; start = Some (codes "2027-12-31 23:00") }
+dated = record (example_port (pos 1_150)) { version = pos 3; start = Some (codes "2027-12-31 23:00") }
 
 -- what these definitions say of them
 pub record TableRows : Type 0 where
@@ -104,4 +43,4 @@ pub record TableRows : Type 0 where
   pub too_shallow : TableTellsSlots 4 2 (codes "1,Gull,incoming,2,60,1100,1140,Bar,140,100,0.0,120,60\n0,Ada,outgoing,4,120,,1040,Bar,,100,,120,150\n")
   -- over the end of a year
   pub new_year : whole_table_text dated tide (Some (2 ∷ 4 ∷ [])) ≡ head_line ++ codes "0,Ada,outgoing,2,2028-01-01 00:00,1150,1160,Bar,110,100,1000.0,2028-01-01 00:00,2028-01-01 00:30\n1,Gull,incoming,4,2028-01-01 01:00,1100,1120,Bar,120,100,0.0,2028-01-01 02:00,2028-01-01 01:00\n"
-  pub no_plan : whole_table_text (table_example_port (pos 1_150)) tide None ≡ head_line
+  pub no_plan : whole_table_text (example_port (pos 1_150)) tide None ≡ head_line

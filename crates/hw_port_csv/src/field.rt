@@ -3,10 +3,10 @@
 ghost use Rattle.std.specs.Prelude.{◌≡◌, ◌∷◌, ◌++◌, [], codes, decimal};
 ghost use Rattle.csv.specs.Writing.{default_writer, escaped, field_text, fields_text, needs_byte, needs_quotes as needs_quotes_of, quoted};
 ghost use Rattle.hw_desk.specs.Writers.{Puts};
-ghost use Rattle.std.specs.Fmt.{signed_decimal};
 ghost use Rattle.hw_port_csv.specs.Fields.{centimetres, field_of, fields_of, tonnes, tonnes_text};
 
 use hw_desk::Writer;
+use hw_port_windows::put_signed;
 
 /// A field of a record.
 #[derive(Clone, Copy)]
@@ -76,16 +76,6 @@ fn put_text<W: Writer>(out: &mut W, text: &[u8])
     } else {
         out.put(text);
     }
-}
-
-/// Puts a number, with a sign where it is below 0.
-fn put_signed<W: Writer>(out: &mut W, number: i64)
-    ensures { Puts (signed_decimal number) (W.state out.old) (W.state out.new) }
-{
-    if number < 0 {
-        out.put(b"-");
-    }
-    out.put_number(number.unsigned_abs());
 }
 
 /// Puts centimetres.

@@ -4,7 +4,8 @@ use Rattle.std.proofs.lemmas.Bool.{leb-true, ltb-true, eqb-true, and_parts}
 use Rattle.std.proofs.lemmas.List.{drop_all}
 use Rattle.std.proofs.Math.Seq.{drop-cons}
 use Rattle.std.proofs.lemmas.Fmt.{decimal_digit, decimal_injective, decimal_step}
-use Rattle.hw_port.specs.Starts.{are_digits, has_digits, has_marks, is_day, is_digit, is_start, pair_at, year_of}
+use Rattle.hw_port.specs.Starts.{are_digits, has_digits, has_marks, is_day, is_start, pair_at, year_of}
+use Rattle.hw_text.specs.Numbers.{is_digit}
 use Rattle.hw_port_dates.specs.declared.moment.Moment.{Moment}
 use Rattle.hw_port_dates.specs.Dates.{days_after}
 use Rattle.hw_port_dates.specs.Moments.{IsMoment, later, start_of}

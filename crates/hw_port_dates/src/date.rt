@@ -1,8 +1,10 @@
 //! Dates: the one that stands some days after another, and the number of a day.
 
 ghost use Rattle.std.specs.Prelude.{◌≡◌, ◌≤◌, ◌<◌, ◌+◌, ◌*◌, ◌-◌};
-ghost use Rattle.hw_port.specs.Starts.{is_leap as leap, days_of_month as month_days};
+ghost use Rattle.hw_port.specs.Starts.{days_of_month as month_days};
 ghost use Rattle.hw_port_dates.specs.Dates.{IsDate, day_number, days_after, days_of_months as first_months, days_of_year as year_days, days_of_years as first_years, first_of_next};
+
+use hw_port::days_of_month;
 
 /// A day of the calendar, as 2027-03-27. Months and days are counted from 1.
 #[derive(Clone, Copy)]
@@ -10,23 +12,6 @@ pub struct Date {
     pub year: u32,
     pub month: u32,
     pub day: u32,
-}
-
-fn is_leap(year: u32) -> bool
-    ensures { result ≡ leap year }
-{
-    year % 4 == 0 && (year % 100 != 0 || year % 400 == 0)
-}
-
-fn days_of_month(year: u32, month: u32) -> u32
-    ensures value { result ≡ month_days year month }
-    ensures few { result ≤ 31 }
-{
-    match month {
-        2 => { if is_leap(year) { 29 } else { 28 } }
-        4 | 6 | 9 | 11 => 30,
-        _ => 31,
-    }
 }
 
 /// The days of the first months of a year.

@@ -2,11 +2,11 @@
 
 ghost use Rattle.std.specs.Prelude.{◌≡◌, ◌≤◌, ◌<◌, ◌+◌, length};
 ghost use Rattle.hw_port.specs.Kept.{IsStart};
-ghost use Rattle.hw_port.specs.Starts.{pair_at};
 ghost use Rattle.hw_port_dates.specs.Dates.{IsDate};
 ghost use Rattle.hw_port_dates.specs.Moments.{IsMoment, in_day, minute_of_day, moment_after, start_of};
 
 use crate::date::{Date, days_after};
+use hw_port::pair_at;
 
 /// A date and a time of the day, as 2027-03-27 15:00.
 #[derive(Clone, Copy)]
@@ -14,17 +14,6 @@ pub struct Moment {
     pub date: Date,
     pub hour: u32,
     pub minute: u32,
-}
-
-/// The number that two digits of a start spell.
-fn pair(text: &[u8], place: usize) -> u32
-    requires { place + 1 < length text.now }
-    ensures value { result ≡ pair_at text.now place }
-    ensures few { result ≤ 2277 }
-{
-    let tens = text[place].saturating_sub(48);
-    let ones = text[place + 1].saturating_sub(48);
-    10 * u32::from(tens) + u32::from(ones)
 }
 
 /// The moment that a start names.
@@ -35,14 +24,14 @@ fn start_of(text: &[u8]) -> Moment
     ensures year { result.date.year ≤ 300_000 }
 {
     let date = Date {
-        year: 100 * pair(text, 0) + pair(text, 2),
-        month: pair(text, 5),
-        day: pair(text, 8),
+        year: 100 * pair_at(text, 0) + pair_at(text, 2),
+        month: pair_at(text, 5),
+        day: pair_at(text, 8),
     };
     Moment {
         date,
-        hour: pair(text, 11),
-        minute: pair(text, 14),
+        hour: pair_at(text, 11),
+        minute: pair_at(text, 14),
     }
 }
 

@@ -1,17 +1,15 @@
 //! What is told of an instance that is refused.
 
 ghost use Rattle.std.specs.Prelude.{◌≡◌, ◌++◌, IfOk, OnOk, option_map};
-ghost use Rattle.std.specs.List.{list_all};
 ghost use Rattle.serde_json.specs.Errors.{IsMemory};
 ghost use Rattle.serde_json.specs.View.{view};
-ghost use Rattle.hw_port.specs.Rules.{is_name, is_printable};
 ghost use Rattle.hw_port_lint.specs.Instances.{IsBreak, IsFieldTold, begins, break_hints, field_hint, item_at, item_hint, items_at_place, kind_of, list_word, item_name_at, text_member, told_name};
 ghost use Rattle.hw_port_lint.specs.Lines.{break_line, item_name_line};
 
 use crate::encoding::{encoding_of, instance_line};
 use crate::pieces::{Piece, put_pieces};
 use hw_model::NoMemory;
-use hw_port::{PortFault, text_at_number};
+use hw_port::{PortFault, is_name, text_at_number};
 use serde_json::{Error, Value};
 use std::alloc::{AllocError, Global};
 
@@ -102,23 +100,6 @@ fn put_name<'w>(
             Piece::Word(b"\n"),
         ],
     )
-}
-
-/// Whether a text is a name as a port's items have it.
-fn is_name(text: &[u8]) -> bool
-    ensures { result ≡ is_name text.now }
-{
-    1 <= text.len()
-        && text.len() <= 40
-        && all_printable(text)
-        && text[0] != b' '
-        && text[text.len() - 1] != b' '
-}
-
-fn all_printable(text: &[u8]) -> bool
-    ensures { result ≡ list_all is_printable text.now }
-{
-    text.iter().all(|b| 32 <= *b && *b <= 126)
 }
 
 /// Appends the line of a text that is a name.

@@ -2,7 +2,8 @@
 
 ghost use Rattle.std.specs.Prelude.{◌≡◌, ◌++◌, IfOk, OnOk};
 ghost use Rattle.std.specs.List.{list_any};
-ghost use Rattle.hw_port_lint.specs.Tables.{holds, table_hints, words_where};
+ghost use Rattle.hw_port_lint.specs.Tables.{table_hints, words_where};
+ghost use Rattle.hw_lemmas.specs.Lists.{has};
 
 use crate::encoding::{encoding_of, table_line};
 use hw_model::NoMemory;
@@ -10,7 +11,7 @@ use std::alloc::{AllocError, Global};
 
 /// Whether some byte is this one.
 fn holds(bytes: &[u8], byte: u8) -> bool
-    ensures { result ≡ holds bytes.now byte }
+    ensures { result ≡ has bytes.now byte }
 {
     bytes.contains(&byte)
 }

@@ -3,29 +3,14 @@
 ghost use Rattle.std.specs.Prelude.{◌≡◌, ◌+◌, ◌<◌, ◌≤◌, ◌≤ℤ◌, pos, ◌++◌, ◌∷◌, [], length, map, All, OnOk, IfOk, slice_index_or};
 ghost use Rattle.std.specs.List.{list_any, range_with_len};
 ghost use Rattle.hw_port.specs.Kept.{RowKept, StretchKept, BerthKept, AfterKept, ShipKept, PortKept};
-ghost use Rattle.hw_port_model.specs.Numbers.{whole, alike as same_direction, separation_of};
+ghost use Rattle.hw_port_model.specs.Numbers.{whole, separation_of};
 ghost use Rattle.hw_port_named.specs.Restrictions.{windows, uses, shared_sections, sharing, separation as apart, pair_named, named_with, named_from, berth_named, after_named, has_tugs, tugs_named, named_restrictions};
 
 use crate::named::{Named, Places};
+use hw_draft::{alike, natural};
 use hw_model::{MOST_SHIPS, NoMemory, ShipId};
 use hw_port::{AfterPair, BerthPair, Port, PortParts, Row, Section, Ship, Stretch};
 use std::alloc::{AllocError, Global};
-
-/// A number of a port that is never negative.
-pub(crate) fn natural(number: i64) -> u32
-    requires least { pos 0 ≤ℤ number }
-    requires most { number ≤ℤ pos 1_000 }
-    ensures { result ≡ whole number }
-{
-    number.unsigned_abs() as u32
-}
-
-/// Whether two ships have the same direction.
-fn alike(ship: &Ship, other: &Ship) -> bool
-    ensures { result ≡ same_direction ship.now other.now }
-{
-    ship.is_outgoing() == other.is_outgoing()
-}
 
 /// The number of a table in a row and a column.
 fn gap(rows: &[Row], first: u32, second: u32) -> u32

@@ -10,7 +10,7 @@ use crate::named::Named;
 use crate::naming::name_restrictions;
 use hw_model::{NoMemory, ShipId};
 use hw_port::{Port, PortParts};
-use hw_text::put_number;
+use hw_text::{put_number, put_spaced};
 use std::alloc::{AllocError, Global};
 
 /// The name of a ship, or none of its bytes where there is no such ship.
@@ -31,14 +31,6 @@ fn section_name(parts: &PortParts, section: u32) -> &[u8]
         Some(section) => &section.name.items,
         None => b"",
     }
-}
-
-/// Appends a number after a space.
-fn put_spaced(out: &mut Vec<u8>, number: u32) -> Result<(), AllocError>
-    ensures { OnOk result (out.new.items ≡ out.old.items ++ 32 ∷ decimal number) }
-{
-    out.push(b' ')?;
-    put_number(out, u64::from(number))
 }
 
 /// Appends numbers, each after a space.

@@ -51,8 +51,9 @@ gull = record {
   closed = [];
 }
 
-abbrev pub window_example_port : ℤ → Parts
-window_example_port deep = record {
+-- a port of these two, with the first one's full draft
+abbrev pub example_port : ℤ → Parts
+example_port deep = record {
   version = pos 1;
   start = None;
   slots = pos 6;
@@ -75,7 +76,7 @@ closed_from_to from to = record { from = from; to = to } ∷ []
 
 -- the same port, where its bar is closed in slot 2, the port in slot 4 and Gull in slot 2
 abbrev pub shut_port : Parts
-shut_port = record (window_example_port (pos 1_150)) {
+shut_port = record (example_port (pos 1_150)) {
   version = pos 3;
   closed = closed_from_to (pos 4) (pos 4);
   waypoints = record { name = codes "Berth"; depth = pos 1_300; closed = [] } ∷ record { name = codes "Bar"; depth = pos 1_000; closed = closed_from_to (pos 2) (pos 2) } ∷ [];
@@ -84,7 +85,7 @@ shut_port = record (window_example_port (pos 1_150)) {
 
 -- the same port, where heights are the lesser of those at both ends of a slot
 abbrev pub least_port : Parts
-least_port = record (window_example_port (pos 1_150)) { version = pos 3; heights = codes "least" }
+least_port = record (example_port (pos 1_150)) { version = pos 3; heights = codes "least" }
 
 -- seven slots
 abbrev pub tide : TideParts
@@ -104,11 +105,11 @@ heights slot = slice_index_or (pos 3 ∷ pos 5 ∷ pos 2 ∷ pos 5 ∷ pos 2 ∷
 -- what these definitions say of them
 pub record WindowRows : Type 0 where
   -- the bar lets the ship out with more and more
-  pub first_slot : status_in (window_example_port (pos 1_150)) tide 0 0 ≡ Sails (pos 1_080)
-  pub full : status_in (window_example_port (pos 1_150)) tide 0 2 ≡ Sails (pos 1_150)
-  pub low_water : status_in (window_example_port (pos 1_150)) tide 0 4 ≡ Shallow (pos 1_040)
+  pub first_slot : status_in (example_port (pos 1_150)) tide 0 0 ≡ Sails (pos 1_080)
+  pub full : status_in (example_port (pos 1_150)) tide 0 2 ≡ Sails (pos 1_150)
+  pub low_water : status_in (example_port (pos 1_150)) tide 0 4 ≡ Shallow (pos 1_040)
   -- the ship is at its berth in slot 7
-  pub ended : status_in (window_example_port (pos 1_150)) tide 1 5 ≡ TidesEnd
+  pub ended : status_in (example_port (pos 1_150)) tide 1 5 ≡ TidesEnd
   -- runs, with one slot between two of one kind
   pub four_runs : runs listed 0 6 ≡ record { first = 0; last = 1 } ∷ record { first = 2; last = 2 } ∷ record { first = 3; last = 4 } ∷ record { first = 5; last = 5 } ∷ []
   pub from_the_second : runs listed 1 2 ≡ record { first = 1; last = 1 } ∷ record { first = 2; last = 2 } ∷ []
@@ -118,16 +119,16 @@ pub record WindowRows : Type 0 where
   pub least : lightest heights 0 4 ≡ 2
   pub of_the_last_two : lightest heights 3 1 ≡ 4
   -- passes
-  pub bar_limits : option_map (λ m. m.waypoint) (limiting (window_example_port (pos 1_150)) tide 0 4) ≡ Some 1
+  pub bar_limits : option_map (λ m. m.waypoint) (limiting (example_port (pos 1_150)) tide 0 4) ≡ Some 1
   pub berth_is_last : last_pass gull.route ≡ record { waypoint = 0; offset = 2 }
   -- a draft below 0
   pub aground : shallow_line (record { first = 3; last = 5 }) (pos 900) (negsuc 9) (codes "Mud") ≡ codes "shallow 3 5 needs 900 at most -10 Mud\n"
   -- the whole report
-  pub report : windows_text (window_example_port (pos 1_150)) tide ≡ codes "ship 0 Ada\nfrom 0 0 to 3 90 draft 1080 1150 full\nshallow 4 4 needs 1050 at most 1040 Bar\nship 1 Gull\nshallow 1 1 needs 1100 at most 1080 Bar\nfrom 2 60 to 4 120 draft 1100 1100 full\ntides end 5 5 needs slot 7 Berth\nend\n"
+  pub report : windows_text (example_port (pos 1_150)) tide ≡ codes "ship 0 Ada\nfrom 0 0 to 3 90 draft 1080 1150 full\nshallow 4 4 needs 1050 at most 1040 Bar\nship 1 Gull\nshallow 1 1 needs 1100 at most 1080 Bar\nfrom 2 60 to 4 120 draft 1100 1100 full\ntides end 5 5 needs slot 7 Berth\nend\n"
   -- a deeper ship, whose full draft the bar never lets out
-  pub kept_back : ship_windows_text (window_example_port (pos 1_170)) tide 0 (ada (pos 1_170)) ≡ codes "ship 0 Ada\nfrom 0 0 to 3 90 draft 1080 1160 short\nshallow 4 4 needs 1050 at most 1040 Bar\n"
+  pub kept_back : ship_windows_text (example_port (pos 1_170)) tide 0 (ada (pos 1_170)) ≡ codes "ship 0 Ada\nfrom 0 0 to 3 90 draft 1080 1160 short\nshallow 4 4 needs 1050 at most 1040 Bar\n"
   -- a tide table that ends early
-  pub short_table : windows_text (window_example_port (pos 1_150)) short_tide ≡ codes "ship 0 Ada\nfrom 0 0 to 0 0 draft 1080 1080 short\ntides end 1 4 needs slot 5 Bar\nship 1 Gull\ntides end 1 5 needs slot 7 Berth\nend\n"
+  pub short_table : windows_text (example_port (pos 1_150)) short_tide ≡ codes "ship 0 Ada\nfrom 0 0 to 0 0 draft 1080 1080 short\ntides end 1 4 needs slot 5 Bar\nship 1 Gull\ntides end 1 5 needs slot 7 Berth\nend\n"
   -- closed slots: in slot 1 the ship would be over the bar in slot 2; in slot 4 the port is closed, whatever the water
   pub bar_closed : status_in shut_port tide 0 1 ≡ Closed
   pub port_closed : status_in shut_port tide 0 4 ≡ Closed

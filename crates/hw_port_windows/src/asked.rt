@@ -10,7 +10,7 @@ ghost use Rattle.hw_port_windows.specs.Windows.{drafts, span_of, statuses};
 
 use crate::closings::is_closed_in;
 use crate::run::Run;
-use crate::status::Status;
+use crate::status::{Status, full_draft};
 use hw_draft::{Passage, natural};
 use hw_model::{ShipId, Slot};
 use hw_port::{Port, PortParts, Ship};
@@ -127,23 +127,11 @@ impl Asked<'_> {
         self.status(slot).is_alike(self.status(slot + 1))
     }
 
-    /// The draft at which the ship sails that the water doesn't keep back.
-    fn full_draft(&self) -> i64
-        ensures { result ≡ full_draft self.now.ship }
-    {
-        let ship = self.ship();
-        if ship.is_outgoing() {
-            ship.deep
-        } else {
-            ship.light
-        }
-    }
-
-    /// Whether that is this draft.
+    /// Whether this is the draft at which the ship sails that the water doesn't keep back.
     pub fn is_full(&self, draft: i64) -> bool
         ensures { result ≡ int_eq draft (full_draft self.now.ship) }
     {
-        draft == self.full_draft()
+        draft == full_draft(self.ship())
     }
 
     /// The minutes of a slot.

@@ -18,4 +18,6 @@ pub use laws::{
     drafts_are_extremes, lines_are_true, reason_true, runs_are_longest, span_is_window,
     value_exactly_outside, window_rows,
 };
+pub use piece::put_signed;
+pub use status::full_draft;
 pub use windows::put_windows;

@@ -16,7 +16,7 @@ pub enum Piece<'a> {
 }
 
 /// Puts a number, with a sign where it is below 0.
-fn put_signed<W: Writer>(out: &mut W, number: i64)
+pub fn put_signed<W: Writer>(out: &mut W, number: i64)
     ensures { Puts (signed_decimal number) (W.state out.old) (W.state out.new) }
 {
     if number < 0 {

@@ -1,7 +1,9 @@
 //! How a ship fares in a slot.
 
 ghost use Rattle.std.specs.Prelude.{◌≡◌};
-ghost use Rattle.hw_port_windows.specs.Statuses.{statuses_alike, draft_of};
+ghost use Rattle.hw_port_windows.specs.Statuses.{statuses_alike, draft_of, full_draft};
+
+use hw_port::Ship;
 
 /// How a ship fares in a slot from its earliest to its latest. Drafts are in centimetres.
 #[derive(Clone, Copy)]
@@ -38,5 +40,16 @@ impl Status {
             Status::Shallow { allowed } => allowed,
             Status::Closed | Status::TidesEnd => 0,
         }
+    }
+}
+
+/// The draft at which a ship sails that the water doesn't keep back, in centimetres.
+pub fn full_draft(ship: &Ship) -> i64
+    ensures { result ≡ full_draft ship.now }
+{
+    if ship.is_outgoing() {
+        ship.deep
+    } else {
+        ship.light
     }
 }

@@ -7,7 +7,7 @@ use crate::variation::Variation;
 use hw_flat::Timetable;
 use hw_model::{Lit, NoMemory};
 use hw_price_dual::Workshop;
-use hw_search_advice::{Advice, Adviser, Bounding, Scene};
+use hw_search_advice::{Advice, AdviceStop, Adviser, Bounding, Scene};
 use std::alloc::Global;
 
 /// Advises a search by prices on tolls. It looks for prices for the whole problem once, and then moves
@@ -79,13 +79,13 @@ impl PricingAdviser {
 }
 
 impl Adviser for PricingAdviser {
-    fn advise(&mut self, alloc: Global, scene: &Scene<'_>) -> Result<Option<Advice>, NoMemory> {
+    fn advise(&mut self, alloc: Global, scene: &Scene<'_>) -> Result<Option<Advice>, AdviceStop> {
         if scene.standing.lemmas < FIRST || scene.room.is_point() {
             return Ok(None);
         }
         self.look(alloc, scene)?;
         match (&mut self.relaxation, &mut self.shop) {
-            (Some(relaxation), Some(shop)) => relaxation.advise(alloc, scene, shop),
+            (Some(relaxation), Some(shop)) => Ok(relaxation.advise(alloc, scene, shop)?),
             _ => Ok(None),
         }
     }

@@ -74,12 +74,14 @@ pub(crate) fn proposal_of(
     })
 }
 
-/// Adds a due on the toll after this many others, if it has a price. The exact tests refuse a toll of too great a
-/// number.
+/// Adds a due on the toll after this many others, if it has a price and a line can name the toll.
 fn add_due(items: &mut Vec<Due>, before: usize, price: i64) -> Result<(), NoMemory> {
+    let Ok(toll) = u32::try_from(before.saturating_add(1)) else {
+        return Ok(());
+    };
     if 0 < price {
         items.push(Due {
-            toll: u32::try_from(before.saturating_add(1)).unwrap_or(u32::MAX),
+            toll,
             price: price.unsigned_abs(),
         })?;
     }

@@ -10,7 +10,7 @@ use hw_cert::{Line, MemoryLog};
 use hw_flat::{Flat, Timetable};
 use hw_model::{Lit, NoMemory};
 use hw_price_adviser::PricingAdviser;
-use hw_search_advice::{Advice, Adviser, Bounding, Scene, Standing};
+use hw_search_advice::{Advice, AdviceStop, Adviser, Bounding, Scene, Standing};
 use hw_search_advised::{Proved, prove};
 use std::alloc::Global;
 
@@ -30,7 +30,7 @@ fn later(standing: Standing, ahead: u32) -> Standing {
 }
 
 impl Adviser for Early {
-    fn advise(&mut self, alloc: Global, scene: &Scene<'_>) -> Result<Option<Advice>, NoMemory> {
+    fn advise(&mut self, alloc: Global, scene: &Scene<'_>) -> Result<Option<Advice>, AdviceStop> {
         let standing = later(scene.standing, self.ahead);
         self.adviser.advise(alloc, &Scene { standing, ..*scene })
     }

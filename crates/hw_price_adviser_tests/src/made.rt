@@ -1,11 +1,8 @@
 //! Made timetables: each one is permitted and carries what its maker says, and with small problems many
 //! are best.
 
-ghost use Rattle.std.specs.Prelude.{IsTrue};
-ghost use Rattle.hw_model.specs.Problem.{IsTimetable};
-
 use crate::drawn::{BY_THE_HOUR, problem};
-use hw_flat::{Flat, Room, Timetable, make_demo};
+use hw_flat::{Flat, Room, is_timetable, make_demo};
 use hw_price_timetables::{Maker, Ranking};
 use hw_rules::{Walked, broken, cargo, walk};
 use std::alloc::Global;
@@ -14,15 +11,6 @@ use std::test::Fail;
 
 /// How many problems a test has.
 const MANY: u32 = 25;
-
-/// Whether a timetable has a slot for each ship.
-fn is_timetable(flat: &Flat, table: &Timetable) -> bool
-    ensures { IsTrue result → IsTimetable flat.now table.now }
-{
-    let shape = flat.shape();
-    let slots = table.as_slice();
-    slots.len() == shape.ships as usize && slots.iter().all(|slot| *slot < shape.slots)
-}
 
 /// What a timetable carries that is made in the whole room by what ships carry, if there is one. An
 /// error where it isn't permitted, or carries something else than the maker says.

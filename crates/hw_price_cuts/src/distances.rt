@@ -2,7 +2,7 @@
 
 use hw_flat::{Flat, ShipId};
 use hw_model::{Hole, MOST_DIFFERENCE, NoMemory, Rule};
-use hw_price_laws::Block;
+use hw_price_laws::{Block, pair_number};
 use std::alloc::Global;
 
 /// The greatest difference of two slots that a hole can name.
@@ -101,11 +101,6 @@ impl Distances {
     pub(crate) fn both_ways(&self, v: ShipId, w: ShipId) -> u32 {
         self.after(v, w).min(self.after(w, v))
     }
-}
-
-/// A number of two ships, whichever comes first.
-fn pair_number(ships: u32, v: ShipId, w: ShipId) -> usize {
-    v.min(w) as usize * ships as usize + v.max(w) as usize
 }
 
 /// One slot less another.

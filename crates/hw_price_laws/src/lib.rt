@@ -6,6 +6,7 @@
 
 mod laws;
 mod limits;
+mod pairs;
 mod tariff;
 mod toll;
 
@@ -15,5 +16,6 @@ pub use laws::{
     toll_usage, wider_prices, without_dues,
 };
 pub use limits::{MOST_COST, MOST_DUES, MOST_GAIN, MOST_PRICE, MOST_SCALE, MOST_TOLLS};
+pub use pairs::pair_number;
 pub use tariff::{Balance, Due, Dues, Tariff};
-pub use toll::{Block, Blocks, Charge, Toll, Weights};
+pub use toll::{Block, Blocks, Charge, Toll, Weights, are_light};

@@ -1,8 +1,9 @@
 //! Tolls, and the charges of which they are made.
 
-ghost use Rattle.std.specs.Prelude.{◌≡◌, ◌↔◌, IfOk, true};
+ghost use Rattle.std.specs.Prelude.{◌≡◌, ◌↔◌, ◌≤◌, All, IfOk, IsTrue, nat_le, true};
+ghost use Rattle.std.specs.List.{list_all};
 
-use hw_model::{NoMemory, ShipId, Slot};
+use hw_model::{MOST_TUGS, NoMemory, ShipId, Slot};
 use std::alloc::Global;
 use std::marker::Model;
 
@@ -138,6 +139,14 @@ impl Toll {
                 false,
         }
     }
+}
+
+/// Whether each weight is at most `MOST_TUGS`.
+pub fn are_light(weights: &[u32]) -> bool
+    ensures computed { result ≡ list_all (λ weight. nat_le weight MOST_TUGS) weights.now }
+    ensures value { IsTrue result ↔ All (λ weight. weight ≤ MOST_TUGS) weights.now }
+{
+    weights.iter().all(|weight| *weight <= MOST_TUGS)
 }
 
 /// Units that a ship takes where its slot lies in a range, both ends taken in.

@@ -9,6 +9,7 @@ ghost use Rattle.hw_price_tests.specs.Asked.{PlaceRefutes, SomeRuleRefutes};
 use crate::holding::exceeded;
 use hw_flat::{Flat, Room, ShipId, Source};
 use hw_model::{NoMemory, Rule};
+use hw_price_laws::pair_number;
 use hw_rules::refuted;
 use std::alloc::Global;
 
@@ -157,11 +158,6 @@ impl RulesByPair {
         }
         None
     }
-}
-
-/// A number of two ships, whichever comes first.
-fn pair_number(ships: u32, v: ShipId, w: ShipId) -> usize {
-    v.min(w) as usize * ships as usize + v.max(w) as usize
 }
 
 /// Whether a rule at one of these places refutes the room.

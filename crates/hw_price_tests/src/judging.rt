@@ -8,7 +8,7 @@ use crate::by_pair::RulesByPair;
 use crate::weighing::heaviest;
 use hw_flat::{Flat, Room, Slot};
 use hw_model::{Job, MOST_FLEET, MOST_HELD, MOST_SHIPS, MOST_TUGS, NoMemory, Rule, fleet_in};
-use hw_price_laws::{Block, Toll};
+use hw_price_laws::{Block, Toll, are_light};
 use std::alloc::Global;
 
 /// Blocks of a toll, which are of different ships.
@@ -67,18 +67,11 @@ fn tugs_fit(
     if restriction < shape.ships || shape.rules <= restriction - shape.ships {
         return Ok(false);
     }
-    if flat.horizon() <= slot || MOST_HELD < most || !are_small(weights) {
+    if flat.horizon() <= slot || MOST_HELD < most || !are_light(weights) {
         return Ok(false);
     }
     let rule = &flat.rules()[(restriction - shape.ships) as usize];
     weighs_up_to(alloc, rule, slot, weights, most)
-}
-
-/// Whether each weight is within its limit.
-fn are_small(weights: &[u32]) -> bool
-    ensures value { IsTrue result ↔ All (λ weight. weight ≤ MOST_TUGS) weights.now }
-{
-    weights.iter().all(|weight| *weight <= MOST_TUGS)
 }
 
 /// Whether the rule is one on tugs, and the jobs that its fleet of the slot can serve together weigh

@@ -2,23 +2,19 @@
 //!
 //! A propagator may keep figures of one room, and is asked (`step`) only when they are those of the
 //! room in question. The search calls `undone` before each `step`: that brings the figures up to
-//! date after any number of cuts and returns. `changed` is there for other callers, which follow a
-//! room cut by cut.
+//! date after any number of cuts and returns.
 
 use hw_flat::{Flat, Room, Source};
 use hw_lits::Found;
-use hw_model::{Lit, NoMemory};
+use hw_model::NoMemory;
 use std::alloc::Global;
 
 /// A source that is asked whether it is quiet in a room, and explains itself by a clause if it isn't.
 pub trait Propagator {
     ghost use Rattle.std.specs.Prelude.{◌≡◌, ℕ, Option};
     ghost use Rattle.hw_model.specs.declared.source.Source.{Source as SourceOf};
-    ghost use Rattle.hw_model.specs.declared.lit.LitTruth.TheVariants.{Free};
-    ghost use Rattle.hw_model.specs.Lits.{IsLitOf};
     ghost use Rattle.hw_model.specs.Problem.{Problem};
     ghost use Rattle.hw_model.specs.Rooms.{RoomModel, RoomFits};
-    ghost use Rattle.hw_model.specs.Narrowing.{truth, cut};
     ghost use Rattle.hw_model.specs.Refuting.{IsSourceOf};
     ghost use Rattle.hw_prop.specs.Finds.{SourceFinds};
 
@@ -51,14 +47,6 @@ pub trait Propagator {
         ensures same { source self.new ≡ source self.old }
         ensures ready { ready self.new flat.now room.now }
         ensures found { SourceFinds flat.now (source self.old) best room.now result };
-
-    /// Follows a cut of the room, by a literal that was Free. It takes no memory.
-    fn changed(&mut self, flat: &Flat, before: &Room, lit: Lit)
-        requires fits { IsLitOf flat.now.ships lit }
-        requires ready { ready self.old flat.now before.now }
-        requires free { truth before.now lit ≡ Free }
-        ensures same { source self.new ≡ source self.old }
-        ensures ready { ready self.new flat.now (cut lit before.now) };
 
     /// Makes it ready for another room of the problem. It takes no memory.
     fn undone(&mut self, flat: &Flat, room: &Room)

@@ -13,7 +13,7 @@ use crate::refuter::BySource;
 use crate::scope::{pairs_of, ships_of};
 use hw_flat::{Flat, Room, ShipId, Source};
 use hw_lits::Found;
-use hw_model::{Lit, NoMemory};
+use hw_model::NoMemory;
 use std::alloc::Global;
 
 /// What trying works on: a room of the problem's size, and the ships and pairs of which the
@@ -134,8 +134,6 @@ impl Propagator for Shaver {
         self.trial = Some(trial);
         found
     }
-
-    fn changed(&mut self, _flat: &Flat, _before: &Room, _lit: Lit) {}
 
     fn undone(&mut self, _flat: &Flat, _room: &Room) {}
 }

@@ -1,12 +1,11 @@
 //! What a propagator finds in a room, beside what is wanted and beside trying.
 
 ghost use Rattle.std.specs.Prelude.{◌≡◌, ◌<◌, IsTrue};
-ghost use Rattle.hw_model.specs.Lits.{IsLitOf};
 ghost use Rattle.hw_model.specs.Refuting.{IsSourceOf};
 
 use crate::rooms::{ANY, OPEN, Rooms, fits, nth_orders, nth_ranges, room_of};
 use hw_flat::{Flat, Room, Source};
-use hw_lits::{Found, cut, truth};
+use hw_lits::{Found, cut, is_lit_of, truth};
 use hw_model::{Lit, LitTruth, NoMemory};
 use hw_prop::{Propagator, Shaver};
 use hw_rules::refuted;
@@ -61,16 +60,6 @@ pub fn is_source(flat: &Flat, source: Source) -> bool
         Source::Rule { place } => (place as usize) < flat.rules().len(),
         Source::Order { v, w, x } => v < w && w < x && x < ships,
         Source::Goal => true,
-    }
-}
-
-/// Whether the literal is one of a problem with this many ships.
-pub fn is_lit_of(ships: u32, lit: Lit) -> bool
-    ensures { IsTrue result → IsLitOf ships lit }
-{
-    match lit {
-        Lit::AtOrAfter { ship, slot } | Lit::Before { ship, slot } => ship < ships && slot >= 1,
-        Lit::First { v, w } | Lit::NotFirst { v, w } => v < w && w < ships,
     }
 }
 

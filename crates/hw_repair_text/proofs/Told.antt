@@ -5,12 +5,13 @@ use Rattle.std.proofs.lemmas.List.Recursion.{is_count_by}
 use Rattle.std.proofs.lemmas.Option.{same_Some}
 use Rattle.hw_lemmas.proofs.Truths.{absurd_false}
 use Rattle.hw_model.specs.Problem.{Problem, value_at}
+use Rattle.hw_flat.specs.Carried.{worth}
 use Rattle.hw_model.specs.Timetables.{plus, cargo_from}
 use Rattle.hw_repair.specs.declared.plan.Wish.{Wish}
 use Rattle.hw_repair.specs.Wishes.{wished, moves_from_wish}
 use Rattle.hw_repair_text.specs.declared.fate.Fate.{Fate}
 use Rattle.hw_repair_text.specs.declared.fate.Fate.TheVariants.{Moved, Kept, Sailed}
-use Rattle.hw_repair_text.specs.Fates.{fate, fates, wish_has_sailed, is_moved, worth, worths}
+use Rattle.hw_repair_text.specs.Fates.{fate, fates, wish_has_sailed, is_moved, worths}
 use Rattle.hw_repair_text.specs.Laws.{EachIsMoved, SumsAreCargo, TotalIsOfChanges, ValueOrNothing, won, lost}
 
 -- ---- moved ships

@@ -1,6 +1,7 @@
 -- What a repair makes of each ship, and what ships carry.
-use Rattle.std.specs.Prelude.{ℕ, ◌+◌, Bool, true, false, not, List, [], ◌∷◌, unwrap_or, if◌then◌else◌}
-use Rattle.hw_model.specs.Problem.{Problem, stays, value_at}
+use Rattle.std.specs.Prelude.{ℕ, ◌+◌, Bool, true, false, not, List, [], ◌∷◌, if◌then◌else◌}
+use Rattle.hw_model.specs.Problem.{Problem, stays}
+use Rattle.hw_flat.specs.Carried.{worth}
 use Rattle.hw_repair.specs.declared.plan.Wish.{Wish}
 use Rattle.hw_repair.specs.declared.plan.Wish.TheVariants as wishes
 use Rattle.hw_repair.specs.Wishes.{moves_from_wish}
@@ -33,10 +34,6 @@ fates f (wish ∷ plan) [] = []
 fates f (wish ∷ plan) (slot ∷ table) = fate f wish slot ∷ fates f plan table
 
 -- ---- cargo
-
--- what a ship carries in a slot, in tenths of a tonne: nothing where it has no value there
-abbrev pub worth : Problem → ℕ → ℕ → ℕ
-worth f ship slot = unwrap_or (value_at f ship slot) 0
 
 -- what the ships from this one on carry in these slots
 abbrev pub worths : Problem → ℕ → List ℕ → ℕ

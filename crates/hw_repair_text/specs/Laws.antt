@@ -1,11 +1,12 @@
 -- What the text says, in the words of plans and of cargo.
 use Rattle.std.specs.Prelude.{◌≡◌, ◌≢◌, ◌↔◌, ℕ, ◌+◌, ◌-◌, List, [], ◌∷◌, length, map, count_by, Some, None}
 use Rattle.hw_model.specs.Problem.{Problem, value_at}
+use Rattle.hw_flat.specs.Carried.{worth}
 use Rattle.hw_model.specs.Timetables.{cargo}
 use Rattle.hw_repair.specs.declared.plan.Wish.{Wish}
 use Rattle.hw_repair.specs.Wishes.{PlanParts, wished, moved}
 use Rattle.hw_repair_text.specs.declared.fate.Fate.TheVariants.{Moved}
-use Rattle.hw_repair_text.specs.Fates.{fate, fates, is_moved, worth, worths}
+use Rattle.hw_repair_text.specs.Fates.{fate, fates, is_moved, worths}
 
 -- a ship is told as moved exactly where its slot isn't the wish's, and as many are as the repair moves
 pub record AreMoved (f : Problem) : Type 0 where

@@ -1,13 +1,14 @@
 -- The whole text: a line for each ship, one for each ship whose cargo differs, and the sums.
 use Rattle.std.specs.Prelude.{ℕ, ◌+◌, List, [], ◌∷◌, ◌++◌, map, codes}
+use Rattle.std.specs.List.{concat}
 use Rattle.hw_model.specs.Problem.{Problem}
+use Rattle.hw_flat.specs.Carried.{worth}
 use Rattle.hw_repair.specs.declared.plan.Wish.{Wish}
 use Rattle.hw_repair.specs.Wishes.{PlanParts, wished}
-use Rattle.hw_report.specs.Pieces.{joined}
 use Rattle.hw_report.specs.Reports.{Naming}
 use Rattle.hw_repair_text.specs.declared.fate.Fate.{Fate}
 use Rattle.hw_repair_text.specs.declared.fate.Fate.TheVariants.{Moved, Kept, Sailed}
-use Rattle.hw_repair_text.specs.Fates.{fate, worth, worths}
+use Rattle.hw_repair_text.specs.Fates.{fate, worths}
 use Rattle.hw_repair_text.specs.Lines.{change_line, ship_moved_line, stands_line, total_line}
 
 -- the line of a ship, by what the repair makes of it
@@ -40,4 +41,4 @@ abbrev pub total_in : Problem → Naming → List Wish → List ℕ → List ℕ
 total_in f names plan table = total_line names (worths f 0 (map wished plan)) (worths f 0 table)
 
 abbrev pub repair_text : Problem → Naming → PlanParts → List ℕ → List ℕ
-repair_text f names plan table = joined (repair_ship_lines f names 0 plan.wishes table ∷ change_lines f names 0 plan.wishes table ∷ total_in f names plan.wishes table ∷ codes "end\n" ∷ [])
+repair_text f names plan table = concat (repair_ship_lines f names 0 plan.wishes table ∷ change_lines f names 0 plan.wishes table ∷ total_in f names plan.wishes table ∷ codes "end\n" ∷ [])

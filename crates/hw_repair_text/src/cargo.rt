@@ -1,24 +1,15 @@
 //! What ships carry.
 
 ghost use Rattle.std.specs.Prelude.{◌≡◌, ◌<◌, ◌≤◌, ◌+◌, ◌*◌, length, All, map};
+ghost use Rattle.hw_flat.specs.Carried.{worth};
 ghost use Rattle.hw_repair.specs.Wishes.{wished, WishFits};
-ghost use Rattle.hw_repair_text.specs.Fates.{worth, worths};
+ghost use Rattle.hw_repair_text.specs.Fates.{worths};
 
 use hw_flat::Flat;
 use hw_model::{MOST_VALUE, ShipId, Slot};
 use hw_repair::Wish;
 
-/// What a ship carries in a slot, in tenths of a tonne: 0 where it has no value there.
-pub fn worth(flat: &Flat, ship: ShipId, slot: Slot) -> u64
-    requires ship_in { ship < flat.now.ships }
-    requires slot_in { slot < flat.now.slots }
-    ensures value { result ≡ worth flat.now ship slot }
-    ensures small { result ≤ MOST_VALUE }
-{
-    flat.value(ship, slot).unwrap_or(0)
-}
-
-/// What a ship carries in the slot of its wish.
+/// What a ship carries in the slot of its wish, in tenths of a tonne.
 pub fn planned_worth(flat: &Flat, ship: ShipId, wish: Wish) -> u64
     requires ship_in { ship < flat.now.ships }
     requires wish { WishFits flat.now.slots wish }
@@ -26,8 +17,8 @@ pub fn planned_worth(flat: &Flat, ship: ShipId, wish: Wish) -> u64
     ensures small { result ≤ MOST_VALUE }
 {
     match wish {
-        Wish::Kept { slot } => worth(flat, ship, slot),
-        Wish::Planned { slot, .. } => worth(flat, ship, slot),
+        Wish::Kept { slot } => flat.worth(ship, slot),
+        Wish::Planned { slot, .. } => flat.worth(ship, slot),
     }
 }
 
@@ -41,7 +32,7 @@ pub fn worths(flat: &Flat, ship: ShipId, slots: &[Slot]) -> u64
     let _shape = flat.shape();
     match slots {
         [] => 0,
-        [slot, more @ ..] => worth(flat, ship, *slot) + worths(flat, ship + 1, more),
+        [slot, more @ ..] => flat.worth(ship, *slot) + worths(flat, ship + 1, more),
     }
 }
 

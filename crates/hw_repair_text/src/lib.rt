@@ -8,7 +8,6 @@ mod cargo;
 mod fate;
 mod laws;
 mod lines;
-mod piece;
 mod telling;
 
 pub use fate::{Fate, fate_of, wished};

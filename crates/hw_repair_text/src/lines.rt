@@ -1,25 +1,25 @@
 //! The lines of the text.
 
-ghost use Rattle.std.specs.Prelude.{◌≡◌, ◌<◌, ◌≤◌, ◌*◌, length, pos};
+ghost use Rattle.std.specs.Prelude.{◌≡◌, ◌<◌, length, pos};
 ghost use Rattle.hw_desk.specs.Writers.{Puts};
 ghost use Rattle.hw_port.specs.Kept.{Within};
 ghost use Rattle.hw_port_model.specs.Numbers.{whole};
-ghost use Rattle.hw_report.specs.Lines.{cargo_text, name_in};
+ghost use Rattle.hw_report.specs.Lines.{name_in};
+ghost use Rattle.hw_report.specs.Pieces.{piece_text};
 ghost use Rattle.hw_report.specs.Printing.{AreNamesOf};
 ghost use Rattle.hw_report.specs.Seen.{names_seen};
-ghost use Rattle.hw_repair_text.specs.Lines.{apart, change_line, change_word, minute_text, ship_moved_line, name_change, name_moved, name_stands, number_change, number_moved, number_stands, repair_piece_text, slot_text, stands_line, total_line};
+ghost use Rattle.hw_repair_text.specs.Lines.{apart, change_line, change_word, minute_text, ship_moved_line, name_change, name_moved, name_stands, number_change, number_moved, number_stands, slot_text, stands_line, total_line};
 
 use crate::fate::stays;
-use crate::piece::{Piece, put_pieces};
 use hw_desk::Writer;
 use hw_flat::Flat;
-use hw_model::{MOST_SLOTS, ShipId, Slot};
-use hw_port::{Port, Ship};
-use hw_report::Names;
+use hw_model::{ShipId, Slot};
+use hw_port::Port;
+use hw_report::{Names, Piece, cargo_piece, minute, put_pieces, ship_name};
 
 /// A slot, or that the ship stays.
 fn slot_piece(flat: &Flat, slot: Slot) -> Piece<'static>
-    ensures { repair_piece_text result ≡ slot_text flat.now slot }
+    ensures { piece_text result ≡ slot_text flat.now slot }
 {
     if stays(flat, slot) {
         Piece::Word(b"stay")
@@ -28,44 +28,16 @@ fn slot_piece(flat: &Flat, slot: Slot) -> Piece<'static>
     }
 }
 
-/// The minute in which a slot begins.
-fn minute(slot: Slot, slot_minutes: i64) -> u64
-    requires slot { slot ≤ MOST_SLOTS }
-    requires minutes { Within (pos 1) (pos 1_440) slot_minutes }
-    ensures { result ≡ slot * whole slot_minutes }
-{
-    u64::from(slot) * slot_minutes.unsigned_abs()
-}
-
 /// The minute in which a slot begins, or that the ship stays.
 fn minute_piece(flat: &Flat, slot_minutes: i64, slot: Slot) -> Piece<'static>
     requires minutes { Within (pos 1) (pos 1_440) slot_minutes }
-    ensures { repair_piece_text result ≡ minute_text flat.now (whole slot_minutes) slot }
+    ensures { piece_text result ≡ minute_text flat.now (whole slot_minutes) slot }
 {
     if flat.horizon() <= slot {
         Piece::Word(b"stay")
     } else {
         Piece::Number(minute(slot, slot_minutes))
     }
-}
-
-/// A cargo, in tenths of a tonne, as it is printed.
-fn cargo_piece(names: Names, cargo: u64) -> Piece<'static>
-    ensures { repair_piece_text result ≡ cargo_text (names_seen names.entry) cargo }
-{
-    match names {
-        Names::Flat => Piece::Number(cargo),
-        Names::Port { .. } => Piece::Tonnes(cargo),
-    }
-}
-
-/// The name of a ship.
-fn name<'s>(ships: &'s [Ship], ship: ShipId) -> &'s [u8]
-    requires ship_in { ship < length ships.now }
-    ensures { result.now ≡ name_in ships.now ship }
-{
-    let ship = &ships[ship as usize];
-    &ship.name.items
 }
 
 /// How far two numbers are apart.
@@ -129,7 +101,7 @@ fn put_name_moved<W: Writer>(
             Piece::Word(b" "),
             minute_piece(flat, parts.slot_minutes, new),
             Piece::Word(b" "),
-            Piece::Word(name(&parts.ships, ship)),
+            Piece::Word(ship_name(&parts.ships, ship)),
             Piece::Word(b"\n"),
         ],
     );
@@ -195,7 +167,7 @@ fn put_name_stands<'x, W: Writer>(
             Piece::Word(b" "),
             minute_piece(flat, parts.slot_minutes, slot),
             Piece::Word(b" "),
-            Piece::Word(name(&parts.ships, ship)),
+            Piece::Word(ship_name(&parts.ships, ship)),
             Piece::Word(b"\n"),
         ],
     );
@@ -276,7 +248,7 @@ pub fn put_change<W: Writer>(
         Names::Flat => put_number_change(out, ship, old, new),
         Names::Port { port, .. } => {
             let parts = port.parts();
-            put_name_change(out, name(&parts.ships, ship), ship, old, new);
+            put_name_change(out, ship_name(&parts.ships, ship), ship, old, new);
         }
     }
 }

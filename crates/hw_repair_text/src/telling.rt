@@ -8,7 +8,7 @@ ghost use Rattle.hw_report.specs.Printing.{AreNamesOf};
 ghost use Rattle.hw_report.specs.Seen.{names_seen};
 ghost use Rattle.hw_repair_text.specs.Texts.{change_in, change_lines, repair_text, repaired_ship_line, repair_ship_lines, total_in};
 
-use crate::cargo::{planned_worth, planned_worths, worth, worths};
+use crate::cargo::{planned_worth, planned_worths, worths};
 use crate::fate::{Fate, fate_of, wished};
 use crate::lines::{put_change, put_moved, put_stands, put_total};
 use hw_desk::Writer;
@@ -68,7 +68,7 @@ fn put_ship_change<W: Writer>(
     ensures { Puts (change_in flat.now (names_seen names.entry) ship wish slot) (W.state out.old) (W.state out.new) }
 {
     let old = planned_worth(flat, ship, wish);
-    let new = worth(flat, ship, slot);
+    let new = flat.worth(ship, slot);
     put_change(out, flat, names, ship, old, new);
 }
 

@@ -3,12 +3,12 @@ use Rattle.std.proofs.Common.{◌≡◌, ◌≤◌, ◌<◌, ◌+◌, ◌∙◌,
 use Rattle.std.proofs.Math.ListN.{drop_of_length-le}
 use Rattle.std.proofs.Math.Seq.{drop-cons}
 use Rattle.hw_model.specs.Problem.{Problem}
+use Rattle.std.specs.List.{concat}
 use Rattle.hw_repair.specs.Wishes.{PlanParts}
 use Rattle.hw_report.specs.Lines.{numbers_text, told_line, ship_lines, reported_drop_line, reported_drop_lines}
-use Rattle.hw_report.specs.Pieces.{joined}
 use Rattle.hw_report.specs.Reports.{Naming}
 
-pub number_next : (ns : List ℕ) (i d : ℕ) → i < length ns → numbers_text (drop i ns) ≡ joined (codes " " ∷ decimal (get_or ns i d) ∷ []) ++ numbers_text (drop (i + 1) ns)
+pub number_next : (ns : List ℕ) (i d : ℕ) → i < length ns → numbers_text (drop i ns) ≡ concat (codes " " ∷ decimal (get_or ns i d) ∷ []) ++ numbers_text (drop (i + 1) ns)
 number_next ns i d lt = rw (add-one, drop-cons ns i d lt) refl
 
 pub numbers_end : (ns : List ℕ) (i : ℕ) → length ns ≤ i → numbers_text (drop i ns) ≡ []

@@ -1,16 +1,12 @@
 -- The pieces of a line: words and numbers, one after another.
 use Rattle.std.specs.Prelude.{ℕ, ◌/◌, ◌%◌, List, [], ◌∷◌, ◌++◌, codes, decimal}
+use Rattle.std.specs.List.{concat}
 use Rattle.hw_report.specs.declared.piece.Piece.{Piece}
 use Rattle.hw_report.specs.declared.piece.Piece.TheVariants.{Word, Number, Tonnes}
 
--- texts one after another
-abbrev pub joined : List (List ℕ) → List ℕ
-joined [] = []
-joined (text ∷ texts) = text ++ joined texts
-
 -- tenths of a tonne as tonnes, with one digit after the point
 abbrev pub tenths : ℕ → List ℕ
-tenths c = joined (decimal (c / 10) ∷ codes "." ∷ decimal (c % 10) ∷ [])
+tenths c = concat (decimal (c / 10) ∷ codes "." ∷ decimal (c % 10) ∷ [])
 
 -- the text of a word, a number or a cargo in tonnes
 abbrev pub piece_text : Piece → List ℕ

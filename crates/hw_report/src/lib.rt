@@ -15,6 +15,8 @@ mod shown;
 mod tables;
 mod words;
 
+pub use lines::{cargo_piece, minute, ship_name};
+pub use piece::{Piece, put_pieces};
 pub use report::{Head, Names, RefusedWord, Report};
 pub use reporting::print_report;
 pub use shown::own_worth;

@@ -1,11 +1,12 @@
 //! The lines of reports.
 
 ghost use Rattle.std.specs.Prelude.{◌≡◌, ◌≤◌, ◌<◌, ◌*◌, ◌∷◌, [], length, pos, unwrap_or, false, nat_le, codes};
+ghost use Rattle.std.specs.List.{concat};
 ghost use Rattle.hw_port.specs.Kept.{Within};
 ghost use Rattle.hw_port_model.specs.Drafts.{sailing as sailing_draft};
 ghost use Rattle.hw_port_model.specs.Numbers.{whole, horizon_of};
 ghost use Rattle.hw_report.specs.Lines.{numbered, cargo_line, cargo_text, so_far, unfinished_text, head_text, bound_text, number_line, name_in, sail_line, sailing_line, named_ship_line, ship_line};
-ghost use Rattle.hw_report.specs.Pieces.{piece_text, joined};
+ghost use Rattle.hw_report.specs.Pieces.{piece_text};
 ghost use Rattle.hw_report.specs.Printing.{AreNamesOf};
 ghost use Rattle.hw_desk.specs.Writers.{Puts};
 ghost use Rattle.hw_report.specs.Seen.{names_seen};
@@ -110,14 +111,14 @@ fn put_number_line<W: Writer>(out: &mut W, flat: &Flat, ship: ShipId, slot: Slot
         put_numbered(out, b"stay ", u64::from(ship));
         return;
     }
-    let value = flat.value(ship, slot).unwrap_or(0);
+    let cargo = flat.worth(ship, slot);
     put_pieces(
         out,
         &[
             Piece::Word(b"sail "),
             Piece::Number(u64::from(slot)),
             Piece::Word(b" "),
-            Piece::Number(value),
+            Piece::Number(cargo),
             Piece::Word(b" "),
             Piece::Number(u64::from(ship)),
             Piece::Word(b"\n"),
@@ -125,8 +126,8 @@ fn put_number_line<W: Writer>(out: &mut W, flat: &Flat, ship: ShipId, slot: Slot
     );
 }
 
-/// The name of a ship.
-pub fn name<'s>(ships: &'s [Ship], ship: ShipId) -> &'s [u8]
+/// The name of a ship of a port.
+pub fn ship_name<'s>(ships: &'s [Ship], ship: ShipId) -> &'s [u8]
     requires ship_in { ship < length ships.now }
     ensures { result.now ≡ name_in ships.now ship }
 {
@@ -134,7 +135,7 @@ pub fn name<'s>(ships: &'s [Ship], ship: ShipId) -> &'s [u8]
     &ship.name.items
 }
 
-/// The minute in which a slot begins.
+/// The minute in which a slot begins, counted from the beginning of slot 0.
 pub fn minute(slot: Slot, slot_minutes: i64) -> u64
     requires slot { slot ≤ MOST_SLOTS }
     requires minutes { Within (pos 1) (pos 1_440) slot_minutes }
@@ -187,7 +188,8 @@ fn put_sailing<W: Writer>(out: &mut W, port: &Port, tide: &Tide, ship: ShipId, s
     let minute = minute(slot, parts.slot_minutes);
     let draft = draft_of(port, tide, ship, slot);
     let cargo = value(port, tide, ship, slot).unwrap_or(0);
-    put_sail(out, slot, minute, draft, cargo, name(&parts.ships, ship));
+    let name = ship_name(&parts.ships, ship);
+    put_sail(out, slot, minute, draft, cargo, name);
 }
 
 /// Whether a ship with this slot stays.
@@ -201,13 +203,13 @@ fn stays(port: &Port, slot: Slot) -> bool
 /// Puts the line of a ship that stays.
 fn put_stay<W: Writer>(out: &mut W, ships: &[Ship], ship: ShipId)
     requires { ship < length ships.now }
-    ensures { Puts (joined (codes "stay " ∷ name_in ships.now ship ∷ codes "\n" ∷ [])) (W.state out.old) (W.state out.new) }
+    ensures { Puts (concat (codes "stay " ∷ name_in ships.now ship ∷ codes "\n" ∷ [])) (W.state out.old) (W.state out.new) }
 {
     put_pieces(
         out,
         &[
             Piece::Word(b"stay "),
-            Piece::Word(name(ships, ship)),
+            Piece::Word(ship_name(ships, ship)),
             Piece::Word(b"\n"),
         ],
     );

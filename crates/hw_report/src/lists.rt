@@ -1,7 +1,7 @@
 //! Reports with lists of numbers, of any length.
 
 ghost use Rattle.std.specs.Prelude.{◌∷◌, [], codes, decimal};
-ghost use Rattle.hw_report.specs.Pieces.{joined};
+ghost use Rattle.std.specs.List.{concat};
 ghost use Rattle.hw_report.specs.Lines.{broken_text, reported_drop_line, reported_drop_lines, numbers_text};
 ghost use Rattle.hw_desk.specs.Writers.{Puts};
 ghost use Rattle.hw_report.specs.Reports.{after, clashed, met};
@@ -13,7 +13,7 @@ use hw_flat::Timetable;
 
 /// Puts a space and a number.
 fn put_spaced<W: Writer>(out: &mut W, number: u32)
-    ensures { Puts (joined (codes " " ∷ decimal number ∷ [])) (W.state out.old) (W.state out.new) }
+    ensures { Puts (concat (codes " " ∷ decimal number ∷ [])) (W.state out.old) (W.state out.new) }
 {
     put_pieces(out, &[Piece::Word(b" "), Piece::Number(u64::from(number))]);
 }

@@ -1,4 +1,4 @@
-//! The pieces of a line: words and numbers.
+//! The pieces of a line: words, numbers and cargo.
 
 ghost use Rattle.hw_report.specs.Pieces.{pieces_text, piece_text, tenths};
 ghost use Rattle.hw_desk.specs.Writers.{Puts};

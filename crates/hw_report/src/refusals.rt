@@ -1,7 +1,7 @@
 //! Reports of what was refused.
 
 ghost use Rattle.std.specs.Prelude.{◌≡◌, ◌∷◌, [], codes};
-ghost use Rattle.hw_report.specs.Pieces.{joined};
+ghost use Rattle.std.specs.List.{concat};
 ghost use Rattle.hw_desk.specs.Writers.{Puts};
 ghost use Rattle.hw_report.specs.Reports.{bad_field, bad_flat, bad_text, bad_tides, refused};
 ghost use Rattle.hw_report.specs.Texts.{named_by, report_text};
@@ -20,7 +20,7 @@ use hw_tide::TideFault;
 
 /// Puts a word and a feed on a line.
 pub fn put_feed<W: Writer>(out: &mut W, label: &[u8], feed: Feed)
-    ensures { Puts (joined (label.now ∷ feed_text feed ∷ codes "\n" ∷ [])) (W.state out.old) (W.state out.new) }
+    ensures { Puts (concat (label.now ∷ feed_text feed ∷ codes "\n" ∷ [])) (W.state out.old) (W.state out.new) }
 {
     put_pieces(
         out,

@@ -10,7 +10,7 @@ ghost use Rattle.hw_report.specs.Plans.{is_gone_by};
 ghost use Rattle.hw_report.specs.Printing.{AreNamesOf, IsTableOfProblem};
 ghost use Rattle.hw_report.specs.Seen.{names_seen, plan_seen, table_seen};
 
-use crate::lines::{minute, name, put_numbered, put_ship};
+use crate::lines::{minute, ship_name, put_numbered, put_ship};
 use crate::piece::{Piece, put_pieces};
 use crate::report::Names;
 use hw_desk::Writer;
@@ -63,7 +63,7 @@ fn put_gone_name<W: Writer>(out: &mut W, port: &Port, ship: ShipId, slot: Slot)
             Piece::Word(b" "),
             Piece::Number(minute),
             Piece::Word(b" "),
-            Piece::Word(name(&parts.ships, ship)),
+            Piece::Word(ship_name(&parts.ships, ship)),
             Piece::Word(b"\n"),
         ],
     );

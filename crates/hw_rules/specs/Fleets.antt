@@ -1,5 +1,5 @@
 -- The fleet and the jobs of a rule, whatever its kind.
-use Rattle.std.specs.Prelude.{ℕ, List, []}
+use Rattle.std.specs.Prelude.{ℕ, List, [], Option, Some, None}
 use Rattle.hw_model.specs.declared.rule.Job.{Job}
 use Rattle.hw_model.specs.declared.rule.Rule.{Rule}
 use Rattle.hw_model.specs.declared.rule.Rule.TheVariants.{Pair, After, Tugs}
@@ -22,3 +22,8 @@ abbrev pub rule_jobs : Rule → List Job
 rule_jobs (Pair v w holes) = []
 rule_jobs (After v w gap) = []
 rule_jobs (Tugs fleet later jobs) = jobs
+
+-- the jobs of a rule, and none where there is no rule
+abbrev pub jobs_in : Option Rule → List Job
+jobs_in None = []
+jobs_in (Some rule) = rule_jobs rule

@@ -14,7 +14,8 @@ use Rattle.hw_search_laws.specs.declared.outcome.Turn.TheVariants as turns
 use Rattle.hw_search_laws.specs.Searches.{SearchModel, IsSearch, LogFits}
 use Rattle.hw_search_laws.specs.Settling.{Settles}
 use Rattle.hw_search_laws.specs.Laws.{lemma_lines}
-use Rattle.hw_search_laws.specs.Turns.{cited, with_lemma, to_level, gone_back, unkept, deletion, Analysed, IsAdded, TurnMeets}
+use Rattle.hw_search_laws.specs.Turns.{cited, with_lemma, to_level, gone_back, unkept, Analysed, IsAdded, TurnMeets}
+use Rattle.hw_cert_laws.specs.Renewing.{deletion}
 use Rattle.hw_search_laws.proofs.Stops.{numbers_kept, past as gone_keeps}
 use Rattle.hw_search_ledger.specs.Handing.{TakesAll, StopRemainder, StopsAfter, StopsWithin}
 use Rattle.hw_search_ledger.specs.Naming.{own_number, taught, Taught}

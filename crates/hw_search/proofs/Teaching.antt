@@ -19,7 +19,8 @@ use Rattle.hw_search_laws.specs.declared.outcome.Turn.TheVariants as turns
 use Rattle.hw_search_laws.specs.Searches.{SearchModel, IsSearch, FitsOpen, LiveKept, LogFits, lemmas_in}
 use Rattle.hw_search_laws.specs.Laws.{lemma_lines}
 use Rattle.hw_search_laws.specs.Living.{FewLiveFrom}
-use Rattle.hw_search_laws.specs.Turns.{Cited, cited, with_lemma, to_level, restart_is_due, gone_back, unkept, deletion, Analysed, IsAdded, Plans, TurnStops, DoesEnd, WritesWell, TurnWrites, TurnMeets}
+use Rattle.hw_search_laws.specs.Turns.{Cited, cited, with_lemma, to_level, restart_is_due, gone_back, unkept, Analysed, IsAdded, Plans, TurnStops, DoesEnd, WritesWell, TurnWrites, TurnMeets}
+use Rattle.hw_cert_laws.specs.Renewing.{deletion}
 use Rattle.hw_search_laws.proofs.Lines.{lemma_open}
 use Rattle.hw_search_laws.proofs.Bounds.{few_numbers}
 use Rattle.hw_search_laws.proofs.Citing.{Citing, Prepared, cites, prepared}

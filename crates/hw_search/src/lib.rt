@@ -18,3 +18,4 @@ pub use hw_search_laws::{Branching, Settled, Solved, Turn};
 pub use search::Search;
 pub use settling::Asked;
 pub use solving::{proved, solve};
+pub use turning::turn_of;

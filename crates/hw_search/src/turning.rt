@@ -29,8 +29,8 @@ use hw_search_sources::{branch, next_level};
 use hw_store::Store;
 use hw_trail_laws::Why;
 
-/// The answer where a line wasn't taken. It takes no memory.
-fn turn_of(stop: LogStop) -> Turn
+/// The answer of a turn where a line wasn't taken. It takes no memory.
+pub fn turn_of(stop: LogStop) -> Turn
     ensures value { result ≡ turn_of stop }
 {
     match stop {

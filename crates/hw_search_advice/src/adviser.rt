@@ -1,5 +1,6 @@
 //! Whoever advises a search by prices.
 
+use crate::stop::AdviceStop;
 use hw_flat::{Flat, Room, Timetable};
 use hw_lits::Clause;
 use hw_model::{Lit, NoMemory};
@@ -64,8 +65,8 @@ pub trait Adviser {
     ghost use Rattle.hw_search_advice.specs.Advisers.{IsAdviceIn, IsBoundIn, IsOpenIn, IsScene};
 
     /// A clause that cuts the room, or that has no literal left there; none if there is nothing to say.
-    /// An error says that memory ran out.
-    fn advise(&mut self, alloc: Global, scene: &Scene<'_>) -> Result<Option<Advice>, NoMemory>
+    /// An error ends the search, and says why.
+    fn advise(&mut self, alloc: Global, scene: &Scene<'_>) -> Result<Option<Advice>, AdviceStop>
         requires { IsScene scene.now }
         ensures advice { IfOk result (λ answer. IfSome answer (IsAdviceIn scene.now)) };
 

@@ -7,6 +7,8 @@
 
 mod adviser;
 mod no_advice;
+mod stop;
 
 pub use adviser::{Advice, Adviser, Bounding, Scene, Standing};
 pub use no_advice::NoAdvice;
+pub use stop::AdviceStop;

@@ -1,6 +1,7 @@
 //! The adviser that has nothing to say.
 
 use crate::adviser::{Advice, Adviser, Bounding, Scene};
+use crate::stop::AdviceStop;
 use hw_flat::Timetable;
 use hw_model::{Lit, NoMemory};
 use std::alloc::Global;
@@ -10,7 +11,7 @@ use std::alloc::Global;
 pub struct NoAdvice;
 
 impl Adviser for NoAdvice {
-    fn advise(&mut self, _alloc: Global, _scene: &Scene<'_>) -> Result<Option<Advice>, NoMemory> {
+    fn advise(&mut self, _alloc: Global, _scene: &Scene<'_>) -> Result<Option<Advice>, AdviceStop> {
         Ok(None)
     }
 

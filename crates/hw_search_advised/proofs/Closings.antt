@@ -9,7 +9,8 @@ use Rattle.hw_cert_lines.specs.declared.line.Line.TheVariants as lines
 use Rattle.hw_cert_lines.specs.Valid.{LineFits, denied_room}
 use Rattle.hw_cert.specs.declared.log.LogStop.{LogStop}
 use Rattle.hw_cert.specs.Logs.{LogModel, WhereTold, Grows}
-use Rattle.hw_search_laws.specs.Closing.{IsReached, last_priced, WritesLast}
+use Rattle.hw_search_laws.specs.Closing.{IsReached, WritesLast}
+use Rattle.hw_cert_lines.specs.Lines.{last_priced}
 use Rattle.hw_search_laws.specs.Prices.{bound_tariff, older_or, with_tariff}
 use Rattle.hw_search_laws.specs.Searches.{SearchModel, IsSearch, LogFits, PricesShow}
 use Rattle.hw_search_laws.proofs.Closings.{reached_shown, last_good}

@@ -7,7 +7,7 @@ use Rattle.hw_price_laws.specs.Prices.{PricesBound}
 use Rattle.hw_price_laws.proofs.Sound.{bounded as sound_bound}
 use Rattle.hw_search_advice.specs.Advisers.{IsBoundAdvice}
 use Rattle.hw_cert.specs.Logs.{LogModel}
-use Rattle.hw_search_laws.specs.Prices.{NoneAbove}
+use Rattle.hw_cert_laws.specs.Laws.{IsBound}
 use Rattle.hw_search_laws.specs.Searches.{SearchModel, IsSearch}
 use Rattle.hw_search_laws.specs.Advised.{Heeds}
 use Rattle.hw_search.specs.Pricing.{with_other_prices, IsBelow, ShowsBound, TellsBound}
@@ -16,7 +16,7 @@ use Rattle.hw_search_advised.specs.Bounding.{WritesLowerBound}
 use Rattle.hw_search_advised.proofs.Heedings.{same_problem}
 
 -- what prices show is a bound
-shown_bounds : (s : SearchModel) (new : ℕ) → IsSearch s → ShowsBound s new → NoneAbove s.problem new
+shown_bounds : (s : SearchModel) (new : ℕ) → IsSearch s → ShowsBound s new → IsBound s.problem new
 shown_bounds s new is shown table c permits worth = by s.prices.tariff shown
   where
     by : (o : Option Tariff) → IsSomeAnd o (λ tariff. (1 ≤ tariff.scale) × PricesBound s.problem s.prices.tolls tariff new) → c ≤ new

@@ -7,7 +7,7 @@ use Rattle.hw_cert.specs.declared.log.LogStop.TheVariants as stops
 use Rattle.hw_cert.specs.Logs.{LogModel}
 use Rattle.hw_search_laws.specs.declared.outcome.Bounded.{Bounded}
 use Rattle.hw_search_laws.specs.declared.outcome.Bounded.TheVariants as bounds
-use Rattle.hw_search_laws.specs.Prices.{NoneAbove}
+use Rattle.hw_cert_laws.specs.Laws.{IsBound}
 use Rattle.hw_search_laws.specs.Searches.{SearchModel}
 use Rattle.hw_search_laws.specs.Advised.{Heeds}
 use Rattle.hw_search.specs.Pricing.{HeedStops, IsBelow, TellsBound}
@@ -19,7 +19,7 @@ IsBoundFor s bounding = IsBoundAdvice s.problem s.prices.tolls s.prices.tariff b
 -- a bound below the last one was written, after tolls and a tariff by which it holds
 pub record WritesLowerBound (s : SearchModel) (bound : ℕ) (after : SearchModel) (old new : LogModel) : Type 0 where
   pub below : IsBelow s bound
-  pub bounds : NoneAbove s.problem bound
+  pub bounds : IsBound s.problem bound
   pub mid : SearchModel
   pub then : LogModel
   pub heeds : Heeds s mid old then

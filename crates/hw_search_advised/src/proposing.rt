@@ -3,7 +3,6 @@
 
 ghost use Rattle.std.specs.Prelude.{◌≡◌, IsTrue, false};
 ghost use Rattle.hw_cert.specs.Logs.{WhereTold};
-ghost use Rattle.hw_model.specs.Problem.{IsTimetable};
 ghost use Rattle.hw_model.specs.Timetables.{Permits};
 ghost use Rattle.hw_search_laws.specs.Offers.{IsBetter};
 ghost use Rattle.hw_search_laws.specs.Proposing.{ProposeMeets};
@@ -11,22 +10,13 @@ ghost use Rattle.hw_search_laws.specs.Searches.{LogFits};
 ghost use Rattle.hw_search_advised.specs.Proposing.{ProposeKeepsFaults, proposed_by};
 
 use hw_cert::{Log, LogStop};
-use hw_flat::{Flat, Timetable};
+use hw_flat::{Timetable, is_timetable};
 use hw_prop::Propagator;
 use hw_rules::{broken, cargo};
 use hw_search::Search;
 use hw_search_advice::Adviser;
 use hw_search_laws::{Proposed, Turn};
 use hw_store::Store;
-
-// Whether a timetable has a slot for each ship.
-fn is_timetable(flat: &Flat, table: &Timetable) -> bool
-    ensures { IsTrue result → IsTimetable flat.now table.now }
-{
-    let shape = flat.shape();
-    let slots = table.as_slice();
-    slots.len() == shape.ships as usize && slots.iter().all(|slot| *slot < shape.slots)
-}
 
 /// The answer to an offer. It takes no memory.
 fn proposed_by(turn: Turn) -> Proposed

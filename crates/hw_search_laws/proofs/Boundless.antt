@@ -17,7 +17,8 @@ use Rattle.hw_cert.specs.Logs.{LogTold, LogModel, Grows}
 use Rattle.hw_search_laws.specs.declared.outcome.Turn.{Turn}
 use Rattle.hw_search_laws.specs.declared.outcome.Turn.TheVariants as turns
 use Rattle.hw_search_laws.specs.Searches.{SearchModel, written_at, why_at}
-use Rattle.hw_search_laws.specs.Turns.{why_lines, Cited, cite_by, cite, cited, cite_conflict, deletion, Plans, WritesPart, FailsPart, TurnDoes, is_last}
+use Rattle.hw_search_laws.specs.Turns.{why_lines, Cited, cite_by, cite, cited, cite_conflict, Plans, WritesPart, FailsPart, TurnDoes, is_last}
+use Rattle.hw_cert_laws.specs.Renewing.{deletion}
 use Rattle.hw_search_laws.specs.Turns.DoesEnd.{at_conflict, at_lemma}
 use Rattle.hw_search_laws.specs.Turns.Plans.{no_line, a_table, an_end, a_lemma}
 use Rattle.hw_search_laws.proofs.Told.{told_so}

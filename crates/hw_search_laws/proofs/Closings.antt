@@ -12,9 +12,9 @@ use Rattle.hw_price_laws.specs.declared.toll.Toll.{Toll}
 use Rattle.hw_price_laws.specs.Prices.{PricesRefute}
 use Rattle.hw_price_laws.proofs.Sound.{rising}
 use Rattle.hw_cert_lines.specs.declared.line.Line.{Line}
-use Rattle.hw_cert_lines.specs.Lines.{is_closed}
+use Rattle.hw_cert_lines.specs.Lines.{is_closed, last_priced}
 use Rattle.hw_cert_lines.proofs.Pushed.{one_more}
-use Rattle.hw_search_laws.specs.Closing.{IsReached, last_priced}
+use Rattle.hw_search_laws.specs.Closing.{IsReached}
 use Rattle.hw_search_laws.specs.Laws.{PriceLine, NothingBetter}
 use Rattle.hw_search_laws.specs.Living.{FewLiveFrom}
 use Rattle.hw_search_laws.specs.Prices.{HoldsBound, bound_tariff}

@@ -20,7 +20,8 @@ use Rattle.hw_trail_laws.specs.Trails.{TrailModel, reason_clause, IsTrail, most_
 use Rattle.hw_trail_laws.specs.Learning.{reason_at, Learns}
 use Rattle.hw_trail_laws.proofs.Many.{few_events}
 use Rattle.hw_search_laws.specs.Searches.{SearchModel, IsSearch, FitsOpen, LiveKept, lemmas_in}
-use Rattle.hw_search_laws.specs.Turns.{Cited, with_lemma, to_level, restart_is_due, gone_back, unkept, deletion, WritesWell}
+use Rattle.hw_search_laws.specs.Turns.{Cited, with_lemma, to_level, restart_is_due, gone_back, unkept, WritesWell}
+use Rattle.hw_cert_laws.specs.Renewing.{deletion}
 use Rattle.hw_search_laws.proofs.Lines.{lemma_open, same_lemmas}
 use Rattle.hw_search_laws.proofs.Backs.{back_open, deleted_open, deleted_kept, nothing_kept, deletion_valid}
 use Rattle.hw_search_laws.proofs.Holds.{Writes, lemma_writes, valid_push, lean_push, lemmas_new, top_low}

@@ -19,7 +19,8 @@ use Rattle.hw_trail_laws.specs.Learning.{Learns, reason_at}
 use Rattle.hw_store.specs.declared.store.Stored.{Stored}
 use Rattle.hw_search_laws.specs.Searches.{SearchModel, IsSearch, FitsOpen, LiveKept, kept_numbers, why_at, written_at}
 use Rattle.hw_search_laws.specs.Settling.{IsConflict}
-use Rattle.hw_search_laws.specs.Turns.{why_lines, Cited, cite_by, cite, cited, cite_conflict, with_lemma, gone_back, unkept, deletion}
+use Rattle.hw_search_laws.specs.Turns.{why_lines, Cited, cite_by, cite, cited, cite_conflict, with_lemma, gone_back, unkept}
+use Rattle.hw_cert_laws.specs.Renewing.{deletion}
 use Rattle.hw_search_laws.specs.Living.{FewLive, FewLiveFrom, FewLiveThroughout}
 use Rattle.hw_search_laws.specs.Laws.{lemma_lines, LemmaMeets, LiveTurn}
 use Rattle.hw_search_laws.proofs.Lines.{IsClauseLine, source_is, priced_is, lemma_is, source_no_lemma, same_lemmas, live_back}

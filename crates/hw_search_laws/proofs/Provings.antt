@@ -8,7 +8,7 @@ use Rattle.hw_model.specs.Rooms.{room_count}
 use Rattle.hw_desk.specs.State.{Rose}
 use Rattle.hw_cert_lines.specs.declared.line.Line.{Line}
 use Rattle.hw_cert_lines.specs.declared.line.Line.TheVariants as lines
-use Rattle.hw_cert_lines.specs.Lines.{last_table, is_closed, ends}
+use Rattle.hw_cert_lines.specs.Lines.{last_table, is_closed, ends, last_priced}
 use Rattle.hw_cert_lines.specs.Tolled.{bound_of}
 use Rattle.hw_cert_lines.specs.Lemmas.{lemma_of, lemmas_of}
 use Rattle.hw_cert_lines.proofs.Closed.{closed_from}
@@ -20,13 +20,14 @@ use Rattle.hw_search_laws.specs.declared.outcome.Turn.TheVariants as turns
 use Rattle.hw_search_laws.specs.declared.outcome.Solved.{Solved}
 use Rattle.hw_search_laws.specs.declared.outcome.Solved.TheVariants as answers
 use Rattle.hw_search_laws.specs.Living.{FewLiveFrom}
-use Rattle.hw_search_laws.specs.Prices.{PriceModel, NoneAbove}
+use Rattle.hw_search_laws.specs.Prices.{PriceModel}
+use Rattle.hw_cert_laws.specs.Laws.{IsBound}
 use Rattle.hw_search_laws.specs.Searches.{SearchModel, IsSearch, LogFits, new_search, best_cargo}
 use Rattle.hw_search_laws.specs.Turns.{TurnMeets, TurnWrites, FitsAfter, FailsNext, is_last}
 use Rattle.hw_search_laws.specs.Solving.{AnswerTells, AnswerMeans, is_proved, may_be_spent}
 use Rattle.hw_search_laws.specs.Advised.{WritesGood, HeedWrites, Heeds, Lowers, Prefers, IsCutOff, StopsBy, AdviceStopped, StopsBound, FollowsAdvice, AdvisedMeets}
 use Rattle.hw_search_laws.specs.Advised.FollowsAdvice.{by_turn, by_preference, by_stop}
-use Rattle.hw_search_laws.specs.Closing.{IsReached, last_priced, WritesLast, Closes}
+use Rattle.hw_search_laws.specs.Closing.{IsReached, WritesLast, Closes}
 use Rattle.hw_search_laws.specs.Proposing.{TakesProposal}
 use Rattle.hw_search_laws.specs.Proving.{WrittenGood, ProveWrites, IsAbove, ProveMeets, ProvedSoFar, Proving, IsEndOf}
 use Rattle.hw_search_laws.specs.Laws.{EndedMeans, ProvingGoesOn, ProvingEnds}
@@ -209,8 +210,8 @@ no_search f budget log empty = record {
 
 -- ---- where it rests
 
-above : (f : Problem) (s : SearchModel) → IsSearch s → s.problem ≡ f → IfSome s.prices.bound (NoneAbove f)
-above f s is same = subst (λ (p : Problem). IfSome s.prices.bound (NoneAbove p)) same is.prices.bound
+above : (f : Problem) (s : SearchModel) → IsSearch s → s.problem ≡ f → IfSome s.prices.bound (IsBound f)
+above f s is same = subst (λ (p : Problem). IfSome s.prices.bound (IsBound p)) same is.prices.bound
 
 allowed : (f : Problem) (s : SearchModel) → IsSearch s → s.problem ≡ f → IfSome s.best (Permits f)
 allowed f s is same = subst (λ (p : Problem). IfSome s.best (Permits p)) same is.permitted
@@ -294,8 +295,8 @@ closes f budget s u turn old here now g last t =
     (λ was told w h. record { good = w.0; best = h.0; lemmas = h.1; bound = w.1 })
 
 -- after the turn the bound is as before it
-above_after : (f : Problem) (s u : SearchModel) → IsSearch s → s.problem ≡ f → u.prices ≡ s.prices → IfSome u.prices.bound (NoneAbove f)
-above_after f s u is same prices = subst (λ (p : PriceModel). IfSome p.bound (NoneAbove f)) (sym prices) (above f s is same)
+above_after : (f : Problem) (s u : SearchModel) → IsSearch s → s.problem ≡ f → u.prices ≡ s.prices → IfSome u.prices.bound (IsBound f)
+above_after f s u is same prices = subst (λ (p : PriceModel). IfSome p.bound (IsBound f)) (sym prices) (above f s is same)
 
 -- memory ran out in a turn
 turn_stopped : (f : Problem) (budget : ℕ) (s u : SearchModel) (old here now : LogModel) → IsSearch s → Proving f budget s old here → s.lemmas < budget → TurnMeets s here turns.NoMemory u now → ProveMeets f budget old (answers.NoMemory u.best) u.prices.bound now

@@ -33,7 +33,8 @@ use Rattle.hw_trail_laws.specs.declared.event.Why.TheVariants as whys
 use Rattle.hw_trail_laws.specs.Learning.{reason_at}
 use Rattle.hw_store.specs.declared.store.Stored.{Stored}
 use Rattle.hw_search_laws.specs.Living.{FewLive}
-use Rattle.hw_search_laws.specs.Prices.{PriceModel, NoneAbove, HoldsBound, ArePrices, PricesTold, older_or, bound_tariff, prices_with_toll, with_tariff, with_bound, DuesAscend}
+use Rattle.hw_search_laws.specs.Prices.{PriceModel, HoldsBound, ArePrices, PricesTold, older_or, bound_tariff, prices_with_toll, with_tariff, with_bound, DuesAscend}
+use Rattle.hw_cert_laws.specs.Laws.{IsBound}
 use Rattle.hw_search_laws.specs.Searches.{SearchModel, IsReason, IsSearch, FitsOpen, LiveKept, written_at, why_at}
 use Rattle.hw_search_laws.specs.Laws.{PriceLine, PriceTaken}
 use Rattle.hw_search_laws.proofs.Lines.{same_lemmas}
@@ -272,7 +273,7 @@ bound_is : (bound : ℕ) → IsPriceLine (lines.Bound bound)
 bound_is bound = record { none = refl; no_table = λ last. refl; no_delete = λ id. refl; no_lemma = refl }
 
 -- no permitted timetable passes what the tariff in force bounds
-none_above : (f : Problem) (ts : List Toll) (bound : ℕ) (o : Option Tariff) → IsFlat f → All (IsToll f) ts → IsSomeAnd o (λ tariff. (1 ≤ tariff.scale) × PricesBound f ts tariff bound) → NoneAbove f bound
+none_above : (f : Problem) (ts : List Toll) (bound : ℕ) (o : Option Tariff) → IsFlat f → All (IsToll f) ts → IsSomeAnd o (λ tariff. (1 ≤ tariff.scale) × PricesBound f ts tariff bound) → IsBound f bound
 none_above f ts bound None flat are shown = absurd shown
 none_above f ts bound (Some tariff) flat are shown = λ table c permits worth. bounded f ts tariff bound table c flat are shown.1 permits worth
 

@@ -24,7 +24,8 @@ use Rattle.hw_cert.specs.Logs.{LogTold}
 use Rattle.hw_store.specs.declared.store.Stored.{Stored}
 use Rattle.hw_search_laws.specs.Searches.{SearchModel, new_search, IsSearch, IsReason, FitsOpen, LiveKept, LogFits, room_in, best_cargo, written_at, why_at}
 use Rattle.hw_search_laws.specs.Settling.{AllQuiet, IsConflict}
-use Rattle.hw_search_laws.specs.Turns.{why_lines, with_written, cited, cite_conflict, with_lemma, to_level, gone_back, unkept, deletion}
+use Rattle.hw_search_laws.specs.Turns.{why_lines, with_written, cited, cite_conflict, with_lemma, to_level, gone_back, unkept}
+use Rattle.hw_cert_laws.specs.Renewing.{deletion}
 use Rattle.hw_search_laws.specs.Laws.{GoodLine, FitGoes, ConflictMeets, FitChanges, lemma_lines, LemmaMeets, EndMeets}
 use Rattle.hw_search_laws.proofs.Lines.{IsClauseLine, why_is, why_no_lemma, of_some, reason_open, reason_kept, line_open, table_open, table_kept}
 use Rattle.hw_search_laws.proofs.Backs.{events_open, events_kept, decided_open, decided_live, back_open, deleted_open, deleted_kept, nothing_kept, deletion_valid}

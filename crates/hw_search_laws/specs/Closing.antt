@@ -1,7 +1,6 @@
 -- How a search is closed where its best timetable reaches the last bound.
 use Rattle.std.specs.Prelude.{◌≡◌, ◌≤◌, true, [], ◌∷◌, ◌++◌, IsSomeAnd}
 use Rattle.hw_model.specs.Problem.{Problem}
-use Rattle.hw_cert_lines.specs.declared.line.Line.{Line}
 use Rattle.hw_cert_lines.specs.declared.line.Line.TheVariants as lines
 use Rattle.hw_cert.specs.Logs.{LogTold, LogModel, Grows}
 use Rattle.hw_search_laws.specs.declared.outcome.Closed.{Closed}
@@ -10,14 +9,11 @@ use Rattle.hw_search_laws.specs.declared.outcome.Turn.TheVariants as turns
 use Rattle.hw_search_laws.specs.Living.{FewLiveFrom}
 use Rattle.hw_search_laws.specs.Searches.{SearchModel, PricesShow, best_cargo}
 use Rattle.hw_search_laws.specs.Advised.{WritesGood, Heeds, StopsBound}
+use Rattle.hw_cert_lines.specs.Lines.{last_priced}
 
 -- the best timetable carries at least the last bound
 abbrev pub IsReached : SearchModel → Type 0
 IsReached s = IsSomeAnd s.prices.bound (λ bound. IsSomeAnd (best_cargo s) (λ best. bound ≤ best))
-
--- a clause of prices without literals, the last line
-abbrev pub last_priced : Line
-last_priced = lines.Priced []
 
 -- the last line was written, and is good after those before it
 pub record WritesLast (f : Problem) (was now : LogTold) : Type 0 where

@@ -16,7 +16,7 @@ use Rattle.hw_model.specs.Replay.{narrowing}
 use Rattle.hw_cert_lines.specs.declared.line.Line.{Line}
 use Rattle.hw_cert_lines.specs.declared.line.Line.TheVariants as lines
 use Rattle.hw_cert_lines.specs.Tolled.{is_plain, tariff_of}
-use Rattle.hw_cert_lines.specs.Lines.{source_line, clause_count, live, is_closed}
+use Rattle.hw_cert_lines.specs.Lines.{source_line, clause_count, live, is_closed, last_priced}
 use Rattle.hw_cert_lines.specs.Valid.{LineFits, ValidAfter, hinted}
 use Rattle.hw_cert_lines.specs.Lemmas.{LeanAfter, lemma_of, lemmas_of, IsNew}
 use Rattle.hw_trail_laws.specs.declared.event.Event.{Event}
@@ -31,7 +31,8 @@ use Rattle.hw_search_laws.specs.Branches.{branch_literal}
 use Rattle.hw_cert.specs.Logs.{LogTold, LogModel, WhereTold, Grows, IsEmpty}
 use Rattle.hw_search_laws.specs.Searches.{SearchModel, new_search, IsSearch, IsReason, HasLine, NumbersStay, PricesShow, OfBetter, FitsOpen, LiveKept, LogFits, room_in, best_cargo, written_at, why_at, kept_numbers}
 use Rattle.hw_search_laws.specs.Settling.{AllQuiet, with_events, IsConflict}
-use Rattle.hw_search_laws.specs.Turns.{why_lines, with_written, Cited, cited, cite_conflict, with_lemma, to_level, gone_back, unkept, deletion, DoesEnd, TurnMeets, WritesWell, is_last}
+use Rattle.hw_search_laws.specs.Turns.{why_lines, with_written, Cited, cited, cite_conflict, with_lemma, to_level, gone_back, unkept, DoesEnd, TurnMeets, WritesWell, is_last}
+use Rattle.hw_cert_laws.specs.Renewing.{deletion}
 use Rattle.hw_search_laws.specs.declared.outcome.Bounded.TheVariants as bounds
 use Rattle.hw_search_laws.specs.declared.outcome.Solved.{Solved}
 use Rattle.hw_search_laws.specs.declared.outcome.Solved.TheVariants as answers
@@ -45,7 +46,7 @@ use Rattle.hw_price_laws.specs.Prices.{TariffFits, PricesBound}
 use Rattle.hw_search_laws.specs.Prices.{bound_tariff, prices_with_toll, with_tariff, with_bound, DuesAscend}
 use Rattle.hw_search_laws.specs.Advised.{Heeds, HeedsLine, AdvisedMeets, BoundMeets, with_priced}
 use Rattle.hw_search_laws.specs.Living.{FewLive, FewLiveThroughout, FewLiveFrom}
-use Rattle.hw_search_laws.specs.Closing.{IsReached, last_priced, Closes}
+use Rattle.hw_search_laws.specs.Closing.{IsReached, Closes}
 use Rattle.hw_search_laws.specs.Proposing.{TakesProposal}
 use Rattle.hw_search_laws.specs.Solving.{SolveWrites, AnswerMeans}
 use Rattle.hw_search_laws.specs.Proving.{ProveMeets, Proving, IsEndOf}

@@ -2,7 +2,6 @@
 use Rattle.std.specs.Prelude.{◌≡◌, ℕ, ◌≤◌, List, [], ◌∷◌, ◌++◌, Option, Some, None, All, IfSome, IsSomeAnd, length, map}
 use Rattle.std.specs.List.Sorted.{IsStrictlyIncreasing}
 use Rattle.hw_model.specs.Problem.{Problem}
-use Rattle.hw_model.specs.Timetables.{Permits, cargo}
 use Rattle.hw_price_laws.specs.declared.limits.TheConstants.{MOST_TOLLS}
 use Rattle.hw_price_laws.specs.declared.tariff.Tariff.{Tariff}
 use Rattle.hw_price_laws.specs.declared.toll.Toll.{Toll}
@@ -10,6 +9,7 @@ use Rattle.hw_price_laws.specs.Tolls.{IsToll}
 use Rattle.hw_price_laws.specs.Prices.{TariffFits, PricesBound}
 use Rattle.hw_cert_lines.specs.declared.line.Line.{Line}
 use Rattle.hw_cert_lines.specs.Tolled.{tolls_of, tariff_of, bound_of}
+use Rattle.hw_cert_laws.specs.Laws.{IsBound}
 
 -- the tolls that were declared, the tariff in force, the last bound in tenths of a tonne, and an older tariff, which shows that bound, where the one in force need not
 pub record PriceModel : Type 0 where
@@ -31,10 +31,6 @@ older_or (Some older) tariff = Some older
 abbrev pub bound_tariff : PriceModel → Option Tariff
 bound_tariff p = older_or p.older p.tariff
 
--- no permitted timetable carries more
-abbrev pub NoneAbove : Problem → ℕ → Type 0
-NoneAbove f bound = (table : List ℕ) (c : ℕ) → Permits f table → cargo f table ≡ Some c → c ≤ bound
-
 -- the dues are on tolls of ascending numbers
 abbrev pub DuesAscend : Tariff → Type 0
 DuesAscend tariff = IsStrictlyIncreasing (map (λ due. due.toll) tariff.dues)
@@ -52,7 +48,7 @@ pub record ArePrices (f : Problem) (p : PriceModel) : Type 0 where
   pub tolls : All (IsToll f) p.tolls
   pub tariff : IfSome p.tariff (TariffFits (length p.tolls))
   pub ascend : IfSome p.tariff DuesAscend
-  pub bound : IfSome p.bound (NoneAbove f)
+  pub bound : IfSome p.bound (IsBound f)
   pub shown : IfSome p.bound (λ bound. IsSomeAnd (bound_tariff p) (HoldsBound f p.tolls bound))
 
 -- lines tell these prices

@@ -12,7 +12,7 @@ use Rattle.hw_cert.specs.Logs.{LogTold, LogModel, WhereTold, IsWhole, Grows}
 use Rattle.hw_search_laws.specs.declared.outcome.Solved.{Solved}
 use Rattle.hw_search_laws.specs.declared.outcome.Solved.TheVariants.{Optimal, Infeasible, Unfinished, NoMemory, LogFailed}
 use Rattle.hw_search_laws.specs.Living.{FewLiveThroughout}
-use Rattle.hw_search_laws.specs.Prices.{NoneAbove}
+use Rattle.hw_cert_laws.specs.Laws.{IsBound}
 use Rattle.hw_search_laws.specs.Searches.{SearchModel, LogFits}
 use Rattle.hw_search_laws.specs.Solving.{is_proved, AnswerTells, may_be_spent, solved_timetable, IsWorth, AnswerMeans}
 use Rattle.hw_search_laws.specs.Advised.{IsCutOff}
@@ -59,7 +59,7 @@ pub record ProveMeets (f : Problem) (budget : ℕ) (old : LogModel) (answer : So
   pub permitted : IfSome (solved_timetable answer) (Permits f)
   pub worth : IsWorth f answer
   pub means : AnswerMeans f budget answer
-  pub bounded : IfSome bound (NoneAbove f)
+  pub bounded : IfSome bound (IsBound f)
   pub above : IsAbove f answer bound
   pub ends : ProveFails f old new answer
 

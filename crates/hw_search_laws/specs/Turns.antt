@@ -24,6 +24,7 @@ use Rattle.hw_cert.specs.Logs.{LogTold, LogModel, WhereTold, Grows, IsBegunLine}
 use Rattle.hw_search_laws.specs.Searches.{SearchModel, IsSearch, LogFits, room_in, written_at, why_at, kept_numbers}
 use Rattle.hw_search_laws.specs.Living.{FewLiveFrom}
 use Rattle.hw_search_laws.specs.Settling.{Implies, Settles}
+use Rattle.hw_cert_laws.specs.Renewing.{deletion}
 
 -- ---- what is written for a clause
 
@@ -88,11 +89,6 @@ gone_back s back = if restart_is_due s then record (to_level s 0) { restarts = s
 -- the live clause lines that are neither lemmas nor reasons of events on the trail, ascending
 abbrev pub unkept : List Line → SearchModel → List ℕ
 unkept before s = filter (λ id. is_some (live before id) && not (list_any (λ kept. kept == id) (kept_numbers s))) (range_with_len 1 (clause_count before))
-
--- one deletion, where there is anything to delete
-abbrev pub deletion : List ℕ → List Line
-deletion [] = []
-deletion (id ∷ ids) = lines.Delete (id ∷ ids) ∷ []
 
 -- ---- the answers
 

@@ -10,7 +10,7 @@ use Rattle.hw_cert.specs.declared.log.LogStop.{LogStop}
 use Rattle.hw_cert.specs.declared.log.LogStop.TheVariants as stops
 use Rattle.hw_cert.specs.Logs.{LogModel, IsWhole}
 use Rattle.hw_store.specs.declared.store.Stored.{Stored}
-use Rattle.hw_search_laws.specs.Turns.{deletion}
+use Rattle.hw_cert_laws.specs.Renewing.{deletion}
 use Rattle.hw_search_ledger.specs.Handing.{TakesAll, StopsWithin}
 use Rattle.hw_search_ledger.specs.GoingBack.{Tidies}
 use Rattle.hw_search_ledger.specs.Dropped.{IsLeftOver}

@@ -5,7 +5,7 @@ ghost use Rattle.hw_model.specs.Rooms.{RoomFits, point_of};
 ghost use Rattle.hw_cert_lines.specs.declared.line.Line.TheVariants.{Table};
 ghost use Rattle.hw_cert_lines.specs.Lemmas.{lemma_of};
 ghost use Rattle.hw_cert.specs.Logs.{IsWhole};
-ghost use Rattle.hw_search_laws.specs.Turns.{deletion};
+ghost use Rattle.hw_cert_laws.specs.Renewing.{deletion};
 ghost use Rattle.hw_search_ledger.specs.Handing.{IsTableLine, IsLemma, TakesAll, StopsWithin};
 ghost use Rattle.hw_search_ledger.specs.Ledgers.{GivesAtMost};
 ghost use Rattle.hw_search_ledger.specs.Naming.{EachOfProblem, HandsLearnt, HandsTaught, IsOfProblem, NamesTaught, WritesLearnt};

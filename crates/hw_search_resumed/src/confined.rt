@@ -7,14 +7,14 @@ ghost use Rattle.hw_search_resumed.specs.Confining.{FindsPartBound, FindsShipBou
 
 use hw_flat::{Flat, Room, Timetable};
 use hw_model::{Lit, NoMemory, ShipId};
-use hw_search_advice::{Advice, Adviser, Bounding, Scene};
+use hw_search_advice::{Advice, AdviceStop, Adviser, Bounding, Scene};
 use std::alloc::Global;
 
 /// Prefers the bounds of a part's room, as long as one is open, and stops the search where it is quiet
 /// and nothing of the part is left. All else is left to another adviser.
 ///
 /// As the bounds of the part are decided before all others, a quiet room without the part comes from
-/// them alone. An adviser stops a search by an error.
+/// them alone.
 #[derive(Drop)]
 pub struct Confined<A: Adviser + Drop> {
     part: Room,
@@ -31,13 +31,13 @@ impl<A: Adviser + Drop> Confined<A> {
 }
 
 impl<A: Adviser + Drop> Adviser for Confined<A> {
-    fn advise(&mut self, alloc: Global, scene: &Scene<'_>) -> Result<Option<Advice>, NoMemory>
+    fn advise(&mut self, alloc: Global, scene: &Scene<'_>) -> Result<Option<Advice>, AdviceStop>
         requires { IsScene scene.now }
         ensures advice { IfOk result (λ answer. IfSome answer (IsAdviceIn scene.now)) }
         ensures confined { OnOk result (RangesMeet self.old.part scene.now.room.now) }
     {
         if !ranges_meet(&self.part, scene.room) {
-            return Err(NoMemory);
+            return Err(AdviceStop::Done);
         }
         self.other.advise(alloc, scene)
     }

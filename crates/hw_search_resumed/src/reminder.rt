@@ -5,7 +5,7 @@ ghost use Rattle.hw_search_advice.specs.Advisers.{IsScene};
 
 use hw_flat::Timetable;
 use hw_model::{Lit, NoMemory};
-use hw_search_advice::{Advice, Adviser, Bounding, Scene};
+use hw_search_advice::{Advice, AdviceStop, Adviser, Bounding, Scene};
 use std::alloc::Global;
 
 /// Proposes a timetable, if it has one, the first time that it is asked for one. All else is left to
@@ -27,7 +27,7 @@ impl<A: Adviser + Drop> Reminder<A> {
 }
 
 impl<A: Adviser + Drop> Adviser for Reminder<A> {
-    fn advise(&mut self, alloc: Global, scene: &Scene<'_>) -> Result<Option<Advice>, NoMemory> {
+    fn advise(&mut self, alloc: Global, scene: &Scene<'_>) -> Result<Option<Advice>, AdviceStop> {
         self.other.advise(alloc, scene)
     }
 

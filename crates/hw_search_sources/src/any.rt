@@ -11,7 +11,7 @@ ghost use Rattle.hw_search_sources.specs.MadeFor.{IsMadeFor, IsMadeForRule};
 use hw_flat::{Flat, Room, Rule, Source};
 use hw_goal::GoalBound;
 use hw_lits::Found;
-use hw_model::{Lit, NoMemory};
+use hw_model::NoMemory;
 use hw_pairs::{Berth, Channel, OrderTriple, Separation};
 use hw_prop::{Propagator, Shaver};
 use hw_rules::sources;
@@ -89,10 +89,6 @@ impl Propagator for AnyPropagator {
         room: &Room,
     ) -> Result<Found, NoMemory> {
         of_each!(self, one => one.step(alloc, flat, best, room))
-    }
-
-    fn changed(&mut self, flat: &Flat, before: &Room, lit: Lit) {
-        of_each!(self, one => one.changed(flat, before, lit))
     }
 
     fn undone(&mut self, flat: &Flat, room: &Room) {

@@ -5,7 +5,7 @@ use hw_cert::MemoryLog;
 use hw_flat::{Flat, Timetable};
 use hw_model::{Lit, NoMemory, Slot};
 use hw_search::Solved;
-use hw_search_advice::{Advice, Adviser, Bounding, Scene};
+use hw_search_advice::{Advice, AdviceStop, Adviser, Bounding, Scene};
 use hw_search_advised::prove;
 use std::alloc::Global;
 use std::test::Fail;
@@ -17,7 +17,7 @@ struct Proposer {
 }
 
 impl Adviser for Proposer {
-    fn advise(&mut self, _alloc: Global, _scene: &Scene<'_>) -> Result<Option<Advice>, NoMemory> {
+    fn advise(&mut self, _alloc: Global, _scene: &Scene<'_>) -> Result<Option<Advice>, AdviceStop> {
         Ok(None)
     }
 

@@ -1,12 +1,11 @@
 //! Both stores in the same rooms, which are drawn.
 
-ghost use Rattle.std.specs.Prelude.{◌≡◌, ◌<◌, ◌+◌, [], All, IsTrue, OnOk};
-ghost use Rattle.hw_model.specs.Lits.{IsLitOf};
+ghost use Rattle.std.specs.Prelude.{◌≡◌, ◌<◌, ◌+◌, [], All, OnOk};
 ghost use Rattle.hw_model.specs.Problem.{shape_of};
 ghost use Rattle.hw_model.specs.Rooms.{whole_room};
 
 use hw_flat::{Flat, Room, make_demo};
-use hw_lits::{Clause, cut, truth};
+use hw_lits::{Clause, cut, is_lit_of, truth};
 use hw_model::{Lit, LitTruth, NoMemory};
 use hw_store::{Held, ScanStore, Store, WatchStore};
 use std::alloc::Global;
@@ -72,15 +71,6 @@ fn lit_of(state: u32) -> Lit {
             v: ship / 2,
             w: 2 + slot % 2,
         },
-    }
-}
-
-fn is_lit_of(ships: u32, lit: Lit) -> bool
-    ensures { IsTrue result → IsLitOf ships lit }
-{
-    match lit {
-        Lit::AtOrAfter { ship, slot } | Lit::Before { ship, slot } => ship < ships && slot >= 1,
-        Lit::First { v, w } | Lit::NotFirst { v, w } => v < w && w < ships,
     }
 }
 

@@ -1,17 +1,13 @@
 -- Small splits with what was worked out for them by hand.
 use Rattle.std.specs.Prelude.{◌≡◌, [], ◌∷◌, Some, None, Ok, Err, codes, List}
 use Rattle.hw_model.specs.declared.lit.Lit.TheVariants.{AtOrAfter, Before}
-use Rattle.hw_model.specs.declared.shape.Shape.{Shape}
 use Rattle.hw_split_text.specs.declared.fault.SplitWord.TheVariants as words
 use Rattle.hw_split_text.specs.declared.node.Node.{Node}
 use Rattle.hw_split_text.specs.declared.node.Node.TheVariants.{Fork, Part}
 use Rattle.hw_split_text.specs.Splits.{split_parts, part_at}
 use Rattle.hw_split_text.specs.Text.{split_text}
 use Rattle.hw_split_text.specs.Written.{written_split}
-
--- two ships, three slots
-abbrev pub two_ships : Shape
-two_ships = record { ships = 2; slots = 3; rules = 0 }
+use Rattle.hw_model_laws.specs.Rows.{shape_of_two_ships}
 
 -- ship 0 sails in slot 0; or later, and then ship 1 in slot 0 or 1, or in slot 2
 abbrev pub three_parts : List Node
@@ -27,25 +23,25 @@ pub record SplitRows : Type 0 where
 
 -- what texts of splits say
 pub record SplitTextRows : Type 0 where
-  pub one_part : split_text two_ships (codes "split 1\np\nend\n") ≡ Ok (Part ∷ [])
-  pub three : split_text two_ships (codes "split 1\ns 0 1\np\ns 1 2\np\np\nend\n") ≡ Ok three_parts
-  pub no_byte : split_text two_ships [] ≡ Err (record { number = 1; word = words.Header })
-  pub other_header : split_text two_ships (codes "split 2\np\nend\n") ≡ Err (record { number = 1; word = words.Header })
-  pub no_node : split_text two_ships (codes "split 1\nend\n") ≡ Err (record { number = 2; word = words.Node })
-  pub no_slot_before : split_text two_ships (codes "split 1\ns 0 0\np\np\nend\n") ≡ Err (record { number = 2; word = words.Node })
-  pub last_slot : split_text two_ships (codes "split 1\ns 0 2\np\np\nend\n") ≡ Ok (Fork 0 2 ∷ Part ∷ Part ∷ [])
-  pub no_such_slot : split_text two_ships (codes "split 1\ns 0 3\np\np\nend\n") ≡ Err (record { number = 2; word = words.Node })
-  pub no_such_ship : split_text two_ships (codes "split 1\ns 2 1\np\np\nend\n") ≡ Err (record { number = 2; word = words.Node })
-  pub cut_off_before : split_text two_ships (codes "split 1\ns 0 1\ns 0 2\np\np\np\nend\n") ≡ Err (record { number = 3; word = words.Node })
-  pub same_slot_later : split_text two_ships (codes "split 1\ns 0 1\np\ns 0 1\np\np\nend\n") ≡ Err (record { number = 4; word = words.Node })
-  pub later_slot_later : split_text two_ships (codes "split 1\ns 0 1\np\ns 0 2\np\np\nend\n") ≡ Ok (Fork 0 1 ∷ Part ∷ Fork 0 2 ∷ Part ∷ Part ∷ [])
-  pub two_spellings : split_text two_ships (codes "split 1\ns 0 01\np\np\nend\n") ≡ Err (record { number = 2; word = words.Node })
-  pub branch_missing : split_text two_ships (codes "split 1\ns 0 1\np\nend\n") ≡ Err (record { number = 4; word = words.Node })
-  pub branch_too_many : split_text two_ships (codes "split 1\np\np\nend\n") ≡ Err (record { number = 3; word = words.Tail })
-  pub text_cut_off : split_text two_ships (codes "split 1\ns 0 1\np\np") ≡ Err (record { number = 4; word = words.Node })
-  pub no_end : split_text two_ships (codes "split 1\np\n") ≡ Err (record { number = 3; word = words.Tail })
-  pub end_without_its_end : split_text two_ships (codes "split 1\np\nend") ≡ Err (record { number = 3; word = words.Tail })
-  pub a_byte_after : split_text two_ships (codes "split 1\np\nend\n\n") ≡ Err (record { number = 4; word = words.Tail })
+  pub one_part : split_text shape_of_two_ships (codes "split 1\np\nend\n") ≡ Ok (Part ∷ [])
+  pub three : split_text shape_of_two_ships (codes "split 1\ns 0 1\np\ns 1 2\np\np\nend\n") ≡ Ok three_parts
+  pub no_byte : split_text shape_of_two_ships [] ≡ Err (record { number = 1; word = words.Header })
+  pub other_header : split_text shape_of_two_ships (codes "split 2\np\nend\n") ≡ Err (record { number = 1; word = words.Header })
+  pub no_node : split_text shape_of_two_ships (codes "split 1\nend\n") ≡ Err (record { number = 2; word = words.Node })
+  pub no_slot_before : split_text shape_of_two_ships (codes "split 1\ns 0 0\np\np\nend\n") ≡ Err (record { number = 2; word = words.Node })
+  pub last_slot : split_text shape_of_two_ships (codes "split 1\ns 0 2\np\np\nend\n") ≡ Ok (Fork 0 2 ∷ Part ∷ Part ∷ [])
+  pub no_such_slot : split_text shape_of_two_ships (codes "split 1\ns 0 3\np\np\nend\n") ≡ Err (record { number = 2; word = words.Node })
+  pub no_such_ship : split_text shape_of_two_ships (codes "split 1\ns 2 1\np\np\nend\n") ≡ Err (record { number = 2; word = words.Node })
+  pub cut_off_before : split_text shape_of_two_ships (codes "split 1\ns 0 1\ns 0 2\np\np\np\nend\n") ≡ Err (record { number = 3; word = words.Node })
+  pub same_slot_later : split_text shape_of_two_ships (codes "split 1\ns 0 1\np\ns 0 1\np\np\nend\n") ≡ Err (record { number = 4; word = words.Node })
+  pub later_slot_later : split_text shape_of_two_ships (codes "split 1\ns 0 1\np\ns 0 2\np\np\nend\n") ≡ Ok (Fork 0 1 ∷ Part ∷ Fork 0 2 ∷ Part ∷ Part ∷ [])
+  pub two_spellings : split_text shape_of_two_ships (codes "split 1\ns 0 01\np\np\nend\n") ≡ Err (record { number = 2; word = words.Node })
+  pub branch_missing : split_text shape_of_two_ships (codes "split 1\ns 0 1\np\nend\n") ≡ Err (record { number = 4; word = words.Node })
+  pub branch_too_many : split_text shape_of_two_ships (codes "split 1\np\np\nend\n") ≡ Err (record { number = 3; word = words.Tail })
+  pub text_cut_off : split_text shape_of_two_ships (codes "split 1\ns 0 1\np\np") ≡ Err (record { number = 4; word = words.Node })
+  pub no_end : split_text shape_of_two_ships (codes "split 1\np\n") ≡ Err (record { number = 3; word = words.Tail })
+  pub end_without_its_end : split_text shape_of_two_ships (codes "split 1\np\nend") ≡ Err (record { number = 3; word = words.Tail })
+  pub a_byte_after : split_text shape_of_two_ships (codes "split 1\np\nend\n\n") ≡ Err (record { number = 4; word = words.Tail })
 
 -- the texts of splits
 pub record WrittenSplitRows : Type 0 where

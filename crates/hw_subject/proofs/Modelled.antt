@@ -20,7 +20,7 @@ use Rattle.hw_plan_texts.proofs.Fleets.{lessened_cargo}
 use Rattle.hw_audit.specs.Laws.{fewer_tugs}
 use Rattle.hw_audit.proofs.Ports.{lessened_port, port_kept}
 use Rattle.hw_audit.specs.PortPlans.{plan_from}
-use Rattle.hw_audit.proofs.PortPlans.{port_plan_law}
+use Rattle.hw_audit.proofs.PortPlans.{port_plan}
 use Rattle.hw_repair.specs.declared.plan.Judged.{Judged}
 use Rattle.hw_repair.specs.declared.plan.Judged.TheVariants.{WholeDay, FromNow}
 use Rattle.hw_repair.specs.declared.plan.Wish.{Wish}
@@ -89,7 +89,7 @@ plain (port_of instance table) held v reads = record {
   carries = λ table h. same_cargo_law v.port v.tide table reads.kept h;
   left = λ withdrawn table. port_left v.port v.tide withdrawn table reads.kept;
   still_carries = λ withdrawn table h. port_carries v.port v.tide withdrawn table reads.kept h;
-  rest = λ now out wishes table fits. let same = port_plan_law v.port v.tide now out wishes table reads.kept fits in record { meets = same.meets; carries = same.carries };
+  rest = λ now out wishes table fits. let same = port_plan v.port v.tide now out wishes table reads.kept fits in record { meets = same.meets; carries = same.carries };
 }
 
 -- the subject itself

@@ -16,6 +16,7 @@ use Rattle.hw_tide.specs.Levels.{TideParts}
 use Rattle.hw_port_model.specs.Flattened.{flattened}
 use Rattle.hw_port_model.specs.Permitted.{PortPermits, port_cargo}
 use Rattle.hw_report.specs.Reports.{Report, Naming, by_number, by_name, bad_text, too_long}
+use Rattle.hw_report.specs.Seen.{table_seen}
 use Rattle.hw_command.specs.Inputs.{NoFlat}
 use Rattle.hw_command.specs.PortInputs.{NoPort}
 use Rattle.hw_command.specs.Scope.{Named, named_feed}
@@ -57,6 +58,12 @@ pub record Subject : Type 1 where
   pub rest_cargo : List Wish → Value → List ℕ → Option ℕ
   -- what a report says of inputs that give no value; no other is given
   pub Refuses : (List ℕ → Option (List ℕ)) → Report → Type 0
+
+-- what is read of the inputs, and another text, of this name, that is too long
+pub record LongText (s : Subject) (name : List ℕ) (held : List ℕ → Option (List ℕ)) : Type 0 where
+  pub value : s.Value
+  pub reads : s.Reads held value
+  pub long : IfSome (held name) IsLong
 
 -- ---- a flat text
 
@@ -210,9 +217,9 @@ abbrev pub origin_seen : Source → Origin
 origin_seen (Flat name) = flat_text name.now
 origin_seen (Port names) = port_of names.instance.now names.tides.now
 
+-- a plan's name is a list of bytes, and is seen as a timetable is, which is a list of slots
 abbrev pub plan_seen : Option (Bor (List ℕ)) → Option (List ℕ)
-plan_seen None = None
-plan_seen (Some name) = Some name.now
+plan_seen name = table_seen name
 
 abbrev pub topic_seen : Asked → Topic
 topic_seen asked = record { origin = origin_seen asked.of; plan = plan_seen asked.plan }

@@ -3,8 +3,10 @@ use Rattle.std.specs.Prelude.{ℕ, List, Option, Some, None, Result, Ok, Err, le
 use Rattle.hw_model.specs.Problem.{Problem, shape_of}
 use Rattle.hw_desk.specs.declared.desk.Feed.TheVariants.{Flat, Plan}
 use Rattle.hw_flat.specs.Text.{Fault as FlatFault, flat_text}
+use Rattle.hw_cert_lines.specs.Lines.{last_table}
 use Rattle.hw_cert_lines.specs.Tolled.{bound_of}
 use Rattle.hw_cert.specs.declared.version.Version.{Version}
+use Rattle.hw_cert.specs.declared.version.Version.TheVariants.{Three}
 use Rattle.hw_cert.specs.Stream.{cert_stream_to}
 use Rattle.hw_report.specs.Reports.{Report, Naming, by_number, bad_flat, bad_text, too_long}
 use Rattle.hw_command.specs.Certificates.{cert_outcome_to, report_of}
@@ -19,6 +21,10 @@ use Rattle.hw_subject.specs.Meanings.{repaired_problem}
 -- the bound of the last bound line that a certificate's bytes read as, or none
 abbrev pub cert_bound : Version → Problem → List ℕ → Option ℕ
 cert_bound most f bytes = bound_of (cert_stream_to most (shape_of f) bytes).lines
+
+-- the timetable of the last table line that a certificate's bytes read as, or none
+abbrev pub cert_table : Problem → List ℕ → Option (List ℕ)
+cert_table f bytes = last_table (cert_stream_to Three (shape_of f) bytes).lines
 
 -- a certificate of a problem in these names, or of the problem's repair by a plan
 abbrev pub cert_report : Version → Naming → Problem → Option PlanParts → List ℕ → Report

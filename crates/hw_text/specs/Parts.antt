@@ -39,3 +39,9 @@ spaced words = join_with_byte 32 words
 abbrev pub ended_lines : List (List ℕ) → List ℕ
 ended_lines [] = []
 ended_lines (line ∷ lines) = line ++ 10 ∷ ended_lines lines
+
+-- one more item in front, where it and all after it could be read
+abbrev pub put_first : {A : Type 0} → Option A → Option (List A) → Option (List A)
+put_first None more = None
+put_first (Some x) None = None
+put_first (Some x) (Some xs) = Some (x ∷ xs)

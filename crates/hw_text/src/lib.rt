@@ -15,4 +15,4 @@ pub use laws::{ended_lines_cut, number_spelled, parts_joined, signed_spelled};
 pub use numbers::{read_number, read_signed, read_small};
 pub use parts::{cut, cut_line, is_end, is_text};
 pub use words::Words;
-pub use writing::{put_number, put_signed};
+pub use writing::{put_number, put_signed, put_spaced};

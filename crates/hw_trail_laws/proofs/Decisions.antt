@@ -18,7 +18,8 @@ use Rattle.hw_trail_laws.specs.declared.event.Event.{Event}
 use Rattle.hw_trail_laws.specs.declared.event.Why.{Why}
 use Rattle.hw_trail_laws.specs.Stories.{room_at}
 use Rattle.hw_trail_laws.specs.Trails.{TrailModel, trail_shape, reason, reason_clause, room_before, room_of, level_after, Because, IsTrail}
-use Rattle.hw_trail_laws.specs.Learning.{is_false, event_of, level_by, level_at}
+use Rattle.hw_trail_laws.specs.Learning.{event_of, level_by, level_at}
+use Rattle.hw_lits.specs.Steps.{is_false}
 use Rattle.hw_trail_laws.specs.Laws.{HasLevels, IsEventOf}
 use Rattle.hw_trail_laws.specs.Bridge.{idle, event_at, story_of}
 use Rattle.hw_trail_laws.proofs.Stories.{decides_first, decides_above, room_falls}

@@ -17,7 +17,8 @@ use Rattle.hw_trail_laws.specs.Stories.{Story, room_at}
 use Rattle.hw_trail_laws.specs.Walks.{InClause, IsTopLevel, story_level}
 use Rattle.hw_trail_laws.specs.Knowing.{always}
 use Rattle.hw_trail_laws.specs.Trails.{TrailModel, trail_shape, room_before, room_of, IsTrail}
-use Rattle.hw_trail_laws.specs.Learning.{is_false, event_of, level_by, level_made, level_of, top_level}
+use Rattle.hw_trail_laws.specs.Learning.{event_of, level_by, level_made, level_of, top_level}
+use Rattle.hw_lits.specs.Steps.{is_false}
 use Rattle.hw_trail_laws.specs.Bridge.{idle, event_at, story_of}
 use Rattle.hw_trail_laws.proofs.Stories.{room_grows, room_falls}
 use Rattle.hw_trail_laws.proofs.Ends.{became}

@@ -1,21 +1,15 @@
 -- What is learnt from a conflict on a trail.
-use Rattle.std.specs.Prelude.{◌≡◌, ◌≢◌, ◌⊎◌, ℕ, ◌+◌, ◌<◌, ◌≤◌, max, Bool, true, false, List, [], ◌∷◌, ◌++◌, Option, Some, None, All, Any, Contains, IsSome, IsSomeAnd, length, fold, find, filter_map, slice_get, option_and_then}
+use Rattle.std.specs.Prelude.{◌≡◌, ◌≢◌, ◌⊎◌, ℕ, ◌+◌, ◌<◌, ◌≤◌, max, List, [], ◌∷◌, ◌++◌, Option, Some, None, All, Any, Contains, IsSome, IsSomeAnd, length, fold, find, filter_map, slice_get, option_and_then}
 use Rattle.std.specs.List.{range_with_len}
 use Rattle.std.specs.List.Sorted.{IsStrictlyIncreasing}
 use Rattle.hw_model.specs.declared.lit.Lit.{Lit}
-use Rattle.hw_model.specs.declared.lit.LitTruth.{LitTruth}
-use Rattle.hw_model.specs.declared.lit.LitTruth.TheVariants.{True, False, Free}
+use Rattle.hw_model.specs.declared.lit.LitTruth.TheVariants.{False}
 use Rattle.hw_model.specs.Lits.{IsClause}
 use Rattle.hw_model.specs.Narrowing.{truth, denied}
 use Rattle.hw_model.specs.Replay.{replay, conflict, QuietClause}
 use Rattle.hw_trail_laws.specs.declared.event.Event.{Event}
 use Rattle.hw_trail_laws.specs.Trails.{TrailModel, trail_shape, reason, room_before, room_of, back_to}
-
--- the room makes the literal False
-abbrev pub is_false : LitTruth → Bool
-is_false True = false
-is_false False = true
-is_false Free = false
+use Rattle.hw_lits.specs.Steps.{is_false}
 
 -- the place of the first event after which the literal is False, none where it isn't False in the room
 abbrev pub event_of : TrailModel → Lit → Option ℕ

@@ -1,19 +1,16 @@
 -- What jobs certainly hold, by ranges that were seen and by a room.
-use Rattle.std.proofs.Common.{◌≡◌, ◌≢◌, ℕ, zero, suc, ◌+◌, ◌*◌, ◌<◌, ◌≤◌, List, [], ◌∷◌, length, get_or, set, sum_by, refl, sym, ap, ◌∙◌, arith, inl, inr}
-use Rattle.std.specs.Prelude.{All, AllPairs}
-use Rattle.std.proofs.lemmas.Bool.{cases_eq, cases_order}
-use Rattle.std.proofs.lemmas.List.{get_or_default, get_or-set_same, get_or-set_other, set-get_or}
+use Rattle.std.proofs.Common.{◌≡◌, ℕ, zero, suc, ◌+◌, ◌*◌, ◌<◌, ◌≤◌, List, [], ◌∷◌, length, get_or, set, sum_by, refl, sym, ap, ◌∙◌, arith}
+use Rattle.std.specs.Prelude.{All}
+use Rattle.std.proofs.lemmas.List.{get_or_default, set-get_or}
 use Rattle.std.proofs.lemmas.List.Elements.{All-head, All-tail, All-nil, All-cons}
 use Rattle.std.proofs.lemmas.List.Sums.{sum_by-cons}
 use Rattle.hw_lemmas.proofs.Truths.{cond_most}
 use Rattle.hw_model.specs.declared.rule.Job.{Job}
 use Rattle.hw_model.specs.Limits.{JobFits}
 use Rattle.hw_model.specs.Rooms.{RoomModel}
-use Rattle.hw_model.specs.Narrowing.{with_range}
 use Rattle.hw_model.specs.Refuting.{forced_by}
 use Rattle.hw_prop.specs.Plain.{range_of}
-use Rattle.hw_prop.proofs.Reading.{range_put, range_put_other}
-use Rattle.hw_tugs.specs.Held.{held_for, held_for_sure, IsLoad, Sees, IsForced, HasShip}
+use Rattle.hw_tugs.specs.Held.{held_for, held_for_sure, IsLoad, Sees, IsForced}
 
 -- ---- how much is held
 
@@ -67,37 +64,6 @@ forced_load room jobs seen load same sees forced = record {
 }
 
 -- ---- what was seen
-same_ship : (jobs : List Job) (place : ℕ) (d e : Job) → place < length jobs → (get_or jobs place d).ship ≡ (get_or jobs place e).ship
-same_ship jobs place d e lt = ap (λ (j : Job). j.ship) (get_or_default jobs place d e lt)
-
--- the ships of ascending jobs differ
-apart : (jobs : List Job) (i k : ℕ) (d e : Job) → AllPairs (λ a b. a.ship < b.ship) jobs → i < length jobs → k < length jobs → k ≢ i → (get_or jobs k e).ship ≢ (get_or jobs i d).ship
-apart jobs i k d e up li lk ne same =
-    elim (cases_order k i) [
-      | inl eq ↦ ne eq
-      | inr (inl less) ↦
-          let l : (get_or jobs k e).ship < (get_or jobs i e).ship = up k i e less li in
-          omega (arith, l, same, same_ship jobs i d e li)
-      | inr (inr more) ↦
-          let l : (get_or jobs i e).ship < (get_or jobs k e).ship = up i k e more lk in
-          omega (arith, l, same, same_ship jobs i d e li)
-    ]
-
-pub sees_set : (room : RoomModel) (jobs : List Job) (seen : List (ℕ × ℕ)) (place : ℕ) (ship low high : ℕ) → AllPairs (λ a b. a.ship < b.ship) jobs → HasShip ship jobs place → length seen ≡ length jobs → ship < length room.ranges
-    → Sees room jobs seen → Sees (with_range room ship low high) jobs (set seen place (low, high))
-sees_set room jobs seen place ship low high up has same inside sees k job below =
-    let lt = has.inside in
-    elim (cases_eq k place) [
-      | inl e ↦
-          let here : get_or (set seen place (low, high)) place (0, 0) ≡ (low, high) = get_or-set_same seen place (low, high) (0, 0) (omega (arith, lt, same)) in
-          let at : get_or (set seen place (low, high)) k (0, 0) ≡ (low, high) = ap (λ i. get_or (set seen place (low, high)) i (0, 0)) e ∙ here in
-          let own : (get_or jobs k job).ship ≡ ship = ap (λ i. (get_or jobs i job).ship) e ∙ has.own job in
-          at ∙ sym (ap (range_of (with_range room ship low high)) own ∙ range_put room ship low high inside)
-      | inr ne ↦
-          let other : (get_or jobs k job).ship ≢ ship = λ e. apart jobs place k job job up lt below ne (e ∙ sym (has.own job)) in
-          get_or-set_other seen place k (low, high) (0, 0) ne ∙ sees k job below ∙ sym (range_put_other room ship low high (get_or jobs k job).ship other)
-    ]
-
 abbrev pair : ℕ → ℕ → ℕ × ℕ
 pair a b = (a, b)
 

@@ -1,5 +1,5 @@
 -- The tugs that jobs certainly hold, by the ranges of their ships.
-use Rattle.std.specs.Prelude.{◌≡◌, ◌≢◌, ℕ, ◌+◌, ◌<◌, ◌&&◌, nat_le, nat_lt, if◌then◌else◌, List, [], ◌∷◌, length, slice_index, slice_index_or, sum_by}
+use Rattle.std.specs.Prelude.{◌≡◌, ℕ, ◌+◌, ◌<◌, ◌&&◌, nat_le, nat_lt, if◌then◌else◌, List, [], ◌∷◌, length, slice_index, slice_index_or, sum_by}
 use Rattle.hw_model.specs.declared.rule.Job.{Job}
 use Rattle.hw_model.specs.Rooms.{RoomModel}
 use Rattle.hw_model.specs.Refuting.{forced_by}
@@ -35,12 +35,3 @@ SeesFirst many room jobs seen = (place : ℕ) (job : Job) → place < many → s
 -- in each slot the tugs that the jobs certainly hold in a room
 abbrev pub IsForced : List Job → RoomModel → List ℕ → Type 0
 IsForced jobs room load = (slot : ℕ) → slot < length load → slice_index load slot ≡ sum_by (forced_by room slot) jobs
-
--- no job is the ship's
-abbrev pub NoJobOf : ℕ → List Job → Type 0
-NoJobOf ship jobs = (place : ℕ) (job : Job) → place < length jobs → (slice_index_or jobs place job).ship ≢ ship
-
--- the job at this place is the ship's
-pub record HasShip (ship : ℕ) (jobs : List Job) (place : ℕ) : Type 0 where
-  pub inside : place < length jobs
-  pub own : (job : Job) → (slice_index_or jobs place job).ship ≡ ship

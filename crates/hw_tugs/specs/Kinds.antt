@@ -1,5 +1,5 @@
 -- The sources of rules on tugs.
-use Rattle.std.specs.Prelude.{◌≡◌, ℕ, List, [], Option, Some, None, sum_by, ⊤}
+use Rattle.std.specs.Prelude.{◌≡◌, ℕ, List, Option, Some, None, sum_by, ⊤}
 use Rattle.hw_model.specs.declared.rule.Job.{Job}
 use Rattle.hw_model.specs.declared.rule.Rule.{Rule}
 use Rattle.hw_model.specs.declared.rule.Rule.TheVariants.{Pair, After, Tugs}
@@ -9,6 +9,7 @@ use Rattle.hw_model.specs.Rooms.{RoomModel}
 use Rattle.hw_model.specs.Refuting.{IsSourceOf, forced_by}
 use Rattle.hw_rules.specs.Fleets as fleets
 use Rattle.hw_prop.specs.Ruled.{rule_of}
+use Rattle.hw_rules.specs.Fleets.{jobs_in}
 
 -- a rule on tugs
 abbrev pub IsTugs : Option Rule → Type 0
@@ -20,13 +21,6 @@ IsTugs (Some (Tugs fleet later jobs)) = ⊤
 -- the source of a rule on tugs
 abbrev pub OfTugs : Problem → Source → Type 0
 OfTugs f source = IsSourceOf f source × IsTugs (rule_of f source)
-
--- the jobs of a rule; a rule on two ships has none
-abbrev pub jobs_in : Option Rule → List Job
-jobs_in None = []
-jobs_in (Some (Pair v w holes)) = []
-jobs_in (Some (After v w gap)) = []
-jobs_in (Some (Tugs fleet later jobs)) = jobs
 
 -- the tugs that a rule's fleet has in a slot; a rule on two ships has none
 abbrev pub fleet_by : Option Rule → ℕ → ℕ

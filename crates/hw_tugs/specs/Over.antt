@@ -3,7 +3,7 @@ use Rattle.std.specs.Prelude.{◌≡◌, ℕ, ◌+◌, ◌<◌, ◌≤◌, min, 
 use Rattle.hw_model.specs.declared.rule.Job.{Job}
 use Rattle.hw_model.specs.Rooms.{RoomModel, low_of, high_of}
 use Rattle.hw_model.specs.Refuting.{forced_by}
-use Rattle.hw_prop.specs.Reductions.{IsCut}
+use Rattle.hw_prop.specs.Reductions.{IsCut, IsQuiet}
 use Rattle.hw_prop.specs.declared.reduction.Reduction.{Reduction}
 use Rattle.hw_prop.specs.declared.reduction.Reduction.TheVariants.{Here, Lowest, Highest, First, NotFirst}
 use Rattle.hw_tugs.specs.declared.cutting.Cut.{Cut}
@@ -24,6 +24,10 @@ OverAt fleet jobs slot room = fleet < sum_by (forced_by room slot) jobs
 -- in some slot of the horizon they hold more than the fleet of that slot
 abbrev pub Exceeding : Fleets → List Job → ℕ → RoomModel → Type 0
 Exceeding fleets jobs horizon room = (slot : ℕ) × (slot < horizon) × OverAt (fleet_at fleets slot) jobs slot room
+
+-- no reduction of the room exceeds a fleet
+abbrev pub ExceedsNone : Fleets → List Job → ℕ → RoomModel → Type 0
+ExceedsNone fleets jobs horizon room = IsQuiet (Exceeding fleets jobs horizon) room
 
 -- neither as it is, nor at an end of its ship's range does a job exceed the fleet of a slot
 pub record IsCalm (load : List ℕ) (fleets : Fleets) (room : RoomModel) (job : Job) : Type 0 where

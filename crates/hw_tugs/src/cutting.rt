@@ -3,10 +3,9 @@
 //! Wrong bodies that are refused: `highest_slot_not_tried`, `quiet_by_the_fleet_of_the_first_slot`.
 ghost use Rattle.std.specs.Prelude.{◌≡◌, ℕ, ◌<◌, ◌≤◌, All, AllPairs, MatchOption, length, slice_index};
 ghost use Rattle.hw_model.specs.Limits.{JobFits};
-ghost use Rattle.hw_prop.specs.Reductions.{IsQuiet};
 ghost use Rattle.hw_tugs.specs.Fleets.{IsLeast};
 ghost use Rattle.hw_tugs.specs.Held.{IsForced};
-ghost use Rattle.hw_tugs.specs.Over.{IsOver, IsCalm, Overfills, Exceeding, CutsAt};
+ghost use Rattle.hw_tugs.specs.Over.{IsOver, IsCalm, Overfills, ExceedsNone, CutsAt};
 
 use crate::fleets::Fleets;
 use hw_flat::{Job, Room, Slot};
@@ -98,7 +97,7 @@ pub(crate) fn tug_cut(jobs: &[Job], fleets: &Fleets, room: &Room, load: &[u64]) 
     requires least { IsLeast fleets.now }
     requires small { (slot : ℕ) → slot < length load.now → slice_index load.now slot ≤ 10_000 }
     requires forced { IsForced jobs.now room.now load.now }
-    ensures found { MatchOption result (IsQuiet (Exceeding fleets.now jobs.now (length load.now)) room.now) (CutsAt fleets.now jobs.now (length load.now) room.now) }
+    ensures found { MatchOption result (ExceedsNone fleets.now jobs.now (length load.now) room.now) (CutsAt fleets.now jobs.now (length load.now) room.now) }
 {
     let _ships = room.ships();
     for job in jobs {

@@ -1,14 +1,11 @@
 //! The tugs that the jobs of a rule certainly hold in each slot, and the ranges that say so.
-ghost use Rattle.std.specs.Prelude.{◌≡◌, ◌≢◌, ℕ, ◌<◌, ◌≤◌, All, AllPairs, IfOk, MatchOption, length, slice_set, slice_index_or};
+ghost use Rattle.std.specs.Prelude.{◌≡◌, ◌≢◌, ℕ, ◌<◌, ◌≤◌, All, IfOk, length, slice_set, slice_index_or};
 ghost use Rattle.hw_model.specs.Limits.{JobFits};
-ghost use Rattle.hw_model.specs.Lits.{IsLitOf};
-ghost use Rattle.hw_model.specs.Narrowing.{with_range, truth, cut};
-ghost use Rattle.hw_model.specs.declared.lit.LitTruth.TheVariants.{Free};
-ghost use Rattle.hw_tugs.specs.Held.{IsLoad, IsForced, Sees, HasShip, NoJobOf};
+ghost use Rattle.hw_tugs.specs.Held.{IsLoad, IsForced, Sees};
 
 use crate::mending::{add, take_away};
-use hw_flat::{Job, Room, ShipId, Slot};
-use hw_model::{Lit, MOST_SHIPS, MOST_TUGS, NoMemory};
+use hw_flat::{Job, Room, Slot};
+use hw_model::{MOST_SHIPS, MOST_TUGS, NoMemory};
 use hw_rules::forced_tugs;
 use std::alloc::Global;
 
@@ -45,18 +42,6 @@ fn loads(alloc: Global, jobs: &[Job], room: &Room, horizon: u32) -> Result<Vec<u
         load.push(forced_tugs(jobs, room, slot))?;
     }
     Ok(load)
-}
-
-/// The place of the job of a ship, or none.
-fn place_of(jobs: &[Job], ship: ShipId) -> Option<usize>
-    ensures found { MatchOption result (NoJobOf ship jobs.now) (HasShip ship jobs.now) }
-{
-    for (place, job) in jobs.iter().enumerate() {
-        if job.ship == ship {
-            return Some(place);
-        }
-    }
-    None
 }
 
 /// Updates the load where the job at a place has another range than the one seen: a step for each
@@ -126,48 +111,6 @@ impl Figures {
     {
         for (place, job) in jobs.iter().enumerate() {
             self.set(jobs, place, (room.low(job.ship), room.high(job.ship)));
-        }
-    }
-
-    /// A ship has another range than in the room: one job's part at most changes.
-    fn set_ship(&mut self, jobs: &[Job], _room: &Room, ship: ShipId, range: (Slot, Slot))
-        requires few { length jobs.now ≤ MOST_SHIPS }
-        requires fit { All (JobFits _room.now.ships) jobs.now }
-        requires ascends { AllPairs (λ a b. a.ship < b.ship) jobs.now }
-        requires ship_in { ship < _room.now.ships }
-        requires load { IsLoad jobs.now self.old.seen.items self.old.load.items }
-        requires sees { Sees _room.now jobs.now self.old.seen.items }
-        ensures length { length self.new.load.items ≡ length self.old.load.items }
-        ensures load { IsLoad jobs.now self.new.seen.items self.new.load.items }
-        ensures sees { Sees (with_range _room.now ship range.0 range.1) jobs.now self.new.seen.items }
-    {
-        let _ships = _room.ships();
-        if let Some(place) = place_of(jobs, ship) {
-            self.set(jobs, place, range);
-        }
-    }
-
-    /// Makes the figures of a room those of the room cut by a literal that is Free.
-    pub(crate) fn narrow(&mut self, jobs: &[Job], before: &Room, lit: Lit)
-        requires few { length jobs.now ≤ MOST_SHIPS }
-        requires fit { All (JobFits before.now.ships) jobs.now }
-        requires ascends { AllPairs (λ a b. a.ship < b.ship) jobs.now }
-        requires literal { IsLitOf before.now.ships lit }
-        requires free { truth before.now lit ≡ Free }
-        requires load { IsLoad jobs.now self.old.seen.items self.old.load.items }
-        requires sees { Sees before.now jobs.now self.old.seen.items }
-        ensures length { length self.new.load.items ≡ length self.old.load.items }
-        ensures load { IsLoad jobs.now self.new.seen.items self.new.load.items }
-        ensures sees { Sees (cut lit before.now) jobs.now self.new.seen.items }
-    {
-        match lit {
-            Lit::AtOrAfter { ship, slot } => {
-                self.set_ship(jobs, before, ship, (slot, before.high(ship)))
-            }
-            Lit::Before { ship, slot } => {
-                self.set_ship(jobs, before, ship, (before.low(ship), slot - 1))
-            }
-            Lit::First { .. } | Lit::NotFirst { .. } => {}
         }
     }
 }

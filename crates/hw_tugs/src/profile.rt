@@ -1,6 +1,6 @@
 //! The propagator of a rule on tugs, by the tugs that are certainly held in each slot.
 
-ghost use Rattle.std.specs.Prelude.{◌≡◌, ◌<◌, ℕ, IfOk, map};
+ghost use Rattle.std.specs.Prelude.{◌≡◌, ◌<◌, ℕ, IfOk};
 ghost use Rattle.hw_model.specs.Problem.{Problem, horizon, shape_of};
 ghost use Rattle.hw_model.specs.Rooms.{RoomModel, whole_room};
 ghost use Rattle.hw_tugs.specs.Kinds.{OfTugs, HeldWhere};
@@ -9,10 +9,10 @@ use crate::explaining::tugs_step;
 use crate::figures::Figures;
 use crate::fleets::Fleets;
 use crate::rule::{TugsTest, tugs_rule};
-use hw_flat::{Flat, Job, Room, ShipId, Slot, Source};
+use hw_flat::{Flat, Room, ShipId, Slot, Source};
 use hw_lits::Found;
-use hw_model::{Lit, NoMemory};
-use hw_prop::{BySource, Propagator};
+use hw_model::NoMemory;
+use hw_prop::{BySource, Propagator, ships_of_jobs};
 use std::alloc::Global;
 
 /// The propagator of a rule on tugs. It keeps the tugs that are certainly held in each slot of the
@@ -22,7 +22,7 @@ use std::alloc::Global;
 ///
 /// A quiet step takes no memory, and at most one step for each slot in which a job may hold its tugs.
 /// `undone` compares one range for each job, and takes a step for each slot that a job certainly
-/// holds where its range differs. `changed` looks for the one job.
+/// holds where its range differs.
 #[derive(Drop)]
 pub struct TugProfile {
     source: Source,
@@ -30,16 +30,6 @@ pub struct TugProfile {
     trial: Room,
     figures: Figures,
     fleets: Fleets,
-}
-
-fn ships_of(alloc: Global, jobs: &[Job]) -> Result<Vec<ShipId>, NoMemory>
-    ensures value { IfOk result (λ ships. ships.items ≡ map (λ job. job.ship) jobs.now) }
-{
-    let mut ships = Vec::new(alloc);
-    for job in jobs {
-        ships.push(job.ship)?;
-    }
-    Ok(ships)
 }
 
 impl TugProfile {
@@ -51,7 +41,7 @@ impl TugProfile {
     {
         let rule = tugs_rule(flat, source);
         let trial = Room::whole(alloc, flat.shape())?;
-        let ships = ships_of(alloc, rule.jobs)?;
+        let ships = ships_of_jobs(alloc, rule.jobs)?;
         let figures = Figures::of_room(alloc, rule.jobs, &trial, flat.horizon())?;
         let fleets = Fleets::of_rule(alloc, rule.fleet, rule.later, flat.horizon())?;
         Ok(TugProfile {
@@ -116,11 +106,6 @@ impl Propagator for TugProfile {
             &mut self.trial,
             &self.ships,
         )
-    }
-
-    fn changed(&mut self, flat: &Flat, before: &Room, lit: Lit) {
-        let rule = tugs_rule(flat, self.source);
-        self.figures.narrow(rule.jobs, before, lit);
     }
 
     fn undone(&mut self, flat: &Flat, room: &Room) {

@@ -14,4 +14,5 @@ mod relaying;
 
 pub use crewing::crew;
 pub use laws::lemma_within;
+pub use member::is_above;
 pub use outcome::Crewed;

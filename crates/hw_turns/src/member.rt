@@ -13,10 +13,10 @@ ghost use Rattle.hw_turns.specs.Members.{Working, Caught, ComesNearer, CargoIsAb
 
 use crate::board::Board;
 use crate::handing::{OwnLines, hand_on};
-use hw_cert::{Log, LogStop, MemoryLog};
+use hw_cert::{Log, MemoryLog};
 use hw_flat::{Flat, NoMemory, Timetable};
 use hw_rules::cargo;
-use hw_search::{Branching, Search, Turn};
+use hw_search::{Branching, Search, Turn, turn_of};
 use hw_search_laws::MOST_BUDGET;
 use hw_search_sources::{AnyPropagator, propagators};
 use hw_store::WatchStore;
@@ -54,8 +54,8 @@ pub fn new_member<'f>(
     })
 }
 
-// Whether a timetable's cargo is above that of another one, or there is no other.
-fn is_above(flat: &Flat, table: &Timetable, other: Option<&Timetable>) -> bool
+/// Whether a timetable's cargo is above that of another one, or there is no other.
+pub fn is_above(flat: &Flat, table: &Timetable, other: Option<&Timetable>) -> bool
     requires table { IsTimetable flat.now table.now }
     requires other { IfSome (option_copied other) (IsTimetable flat.now) }
     ensures better { IsTrue result → CargoIsAbove flat.now table.now (option_copied other.entry) }
@@ -70,16 +70,6 @@ fn is_above(flat: &Flat, table: &Timetable, other: Option<&Timetable>) -> bool
             None => true,
             Some(most) => most < worth,
         },
-    }
-}
-
-/// The answer where a line wasn't taken.
-fn turn_of(stop: LogStop) -> Turn
-    ensures value { result ≡ turn_of stop }
-{
-    match stop {
-        LogStop::Failed => Turn::LogFailed,
-        LogStop::NoMemory => Turn::NoMemory,
     }
 }
 

@@ -5,7 +5,7 @@ ghost use Rattle.std.specs.Prelude.{◌≡◌, ◌≤◌, false, IfOk, length};
 ghost use Rattle.hw_search_laws.specs.Turns.{is_last};
 ghost use Rattle.hw_turns.specs.Members.{Working};
 
-use crate::player::{Player, is_timetable};
+use crate::player::Player;
 use crate::problems::{APART, CLIMB, NONE_FITS, TUGS, crew_lines};
 use hw_cert::Line;
 use hw_flat::{Flat, NoMemory, Timetable, make_demo};

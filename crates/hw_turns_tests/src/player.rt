@@ -1,18 +1,17 @@
 //! A searcher that is played by hand: a search over a log of its own.
 
-ghost use Rattle.std.specs.Prelude.{◌≡◌, ◌<◌, false, IfOk, IfSome, IsTrue, OnOk};
-ghost use Rattle.std.specs.Option.{option_copied};
-ghost use Rattle.hw_model.specs.Problem.{IsTimetable};
+ghost use Rattle.std.specs.Prelude.{◌≡◌, ◌<◌, false, IfOk, IsTrue, OnOk};
 ghost use Rattle.hw_model.specs.Timetables.{Permits};
 ghost use Rattle.hw_search_laws.specs.Turns.{is_last};
-ghost use Rattle.hw_turns.specs.Members.{Working, Caught, CargoIsAbove, TurnsOwn, UnlessStopped};
+ghost use Rattle.hw_turns.specs.Members.{Working, Caught, TurnsOwn, UnlessStopped};
 
 use hw_cert::MemoryLog;
-use hw_flat::{Flat, NoMemory, Timetable};
-use hw_rules::{broken, cargo};
+use hw_flat::{Flat, NoMemory, Timetable, is_timetable};
+use hw_rules::broken;
 use hw_search::{Branching, Search, Turn};
 use hw_search_sources::{AnyPropagator, propagators};
 use hw_store::WatchStore;
+use hw_turns::is_above;
 use std::alloc::Global;
 
 /// A searcher.
@@ -22,38 +21,11 @@ pub struct Player<'f> {
     pub log: MemoryLog,
 }
 
-/// Whether a timetable is of the problem: it has a slot for each ship.
-pub fn is_timetable(flat: &Flat, table: &Timetable) -> bool
-    ensures { IsTrue result → IsTimetable flat.now table.now }
-{
-    let shape = flat.shape();
-    let slots = table.as_slice();
-    slots.len() == shape.ships as usize && slots.iter().all(|slot| *slot < shape.slots)
-}
-
 /// Whether a timetable is permitted.
 fn is_permitted(flat: &Flat, table: &Timetable) -> bool
     ensures { IsTrue result → Permits flat.now table.now }
 {
     is_timetable(flat, table) && broken(flat, table).is_none()
-}
-
-/// Whether a timetable carries more than another one, or there is no other.
-fn is_above(flat: &Flat, table: &Timetable, other: Option<&Timetable>) -> bool
-    requires table { IsTimetable flat.now table.now }
-    requires other { IfSome (option_copied other) (IsTimetable flat.now) }
-    ensures better { IsTrue result → CargoIsAbove flat.now table.now (option_copied other.entry) }
-{
-    let Some(worth) = cargo(flat, table) else {
-        return false;
-    };
-    match other {
-        None => true,
-        Some(other) => match cargo(flat, other) {
-            None => true,
-            Some(most) => most < worth,
-        },
-    }
 }
 
 impl<'f> Player<'f> {

@@ -1,5 +1,5 @@
 use Rattle.std.proofs.Common.{◌≡◌, ◌+◌, ◌<◌, ◌≤◌, ℕ, length, get_or}
-use Rattle.hw_audit.specs.Keeping.{held_from}
+use Rattle.hw_repair.specs.Wishes.{held_from}
 use Rattle.hw_audit.proofs.tugs.take_away.Given as goal
 
 abbrev pub invariant-loop-k : goal.invariant-loop-k

@@ -26,7 +26,7 @@ returns-in-Ok-read_tides g c =
     let tide = reads_tide c.in-Ok-read_input.ensures (rw c.deref-2.ensures.value at c.in-Ok-read_tides.ensures.tide) (subst IsTide c.tide.view_is c.tide.invariant) c.in-Ok-read_tides.ensures.columns in
     let text : IfOk c.lint_text.result (λ made. made.items ≡ lint_text c.in-Ok-read_port.port c.in-Ok-read_tides.tide.rows c.in-Ok-read_input.table.items) =
     subst (λ (t : TideParts). IfOk c.lint_text.result (λ made. made.items ≡ lint_text c.in-Ok-read_port.port t.rows c.in-Ok-read_input.table.items)) c.tide.view_is (rw c.deref-in-Ok-read_tides.ensures.value at c.lint_text.ensures) in
-    hints_sent c.lint_text.result port c.in-Ok-read_input.ensures tide text c.send_text.ensures
+    hints_sent c.lint_text.result port c.in-Ok-read_input.ensures tide text c.list_held.ensures
 
 pub returns : goal.returns
 returns g c =

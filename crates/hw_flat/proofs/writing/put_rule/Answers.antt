@@ -3,10 +3,10 @@ use Rattle.hw_flat.specs.TextWritten.{led, hole_text, job_text, step_text, tugs_
 use Rattle.hw_flat.proofs.WrittenWords.{on_ok, keyed_both, keyed_next}
 use Rattle.hw_flat.proofs.writing.put_rule.Goals as goal
 
-pub returns-in_ok-put_next-in-Pair : goal.returns-in_ok-put_next-in-Pair
-returns-in_ok-put_next-in-Pair c =
-    on_ok c.put_holes.result (c.put_holes.new.out.items ≡ c.put_next.new.out.items ++ led (map hole_text c.deref.result.now)) (c.put_holes.new.out.items ≡ c.args.out.now.items ++ rule_text c.args.rule.now)
-    (λ e. rw (e, c.in_ok-put_next-in-Pair.ensures, c.in_ok-put_key-in-Pair.ensures, c.in-Pair.is, c.deref.ensures.value, sym c.holes.view_is) (keyed_next 112 c.args.out.now.items (decimal c.in-Pair.v) (decimal c.in-Pair.w) (map hole_text c.holes.inside.items.items))) c.put_holes.ensures
+pub returns-in_ok-put_spaced-in-Pair : goal.returns-in_ok-put_spaced-in-Pair
+returns-in_ok-put_spaced-in-Pair c =
+    on_ok c.put_holes.result (c.put_holes.new.out.items ≡ c.put_spaced.new.out.items ++ led (map hole_text c.deref.result.now)) (c.put_holes.new.out.items ≡ c.args.out.now.items ++ rule_text c.args.rule.now)
+    (λ e. rw (e, c.in_ok-put_spaced-in-Pair.ensures, c.in_ok-put_key-in-Pair.ensures, c.in-Pair.is, c.deref.ensures.value, sym c.holes.view_is) (keyed_next 112 c.args.out.now.items (decimal c.in-Pair.v) (decimal c.in-Pair.w) (map hole_text c.holes.inside.items.items))) c.put_holes.ensures
 
 pub returns-in_ok-put_steps-in-Tugs : goal.returns-in_ok-put_steps-in-Tugs
 returns-in_ok-put_steps-in-Tugs c =

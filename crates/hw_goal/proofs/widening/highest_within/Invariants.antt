@@ -1,5 +1,5 @@
 use Rattle.std.proofs.Common.{◌-◌, ◌≡◌, ◌≤◌, ◌<◌, ◌+◌, ℕ}
-use Rattle.hw_goal.specs.Kept.{worth}
+use Rattle.hw_flat.specs.Carried.{worth}
 use Rattle.hw_goal.proofs.widening.highest_within.Given as goal
 
 abbrev pub invariant-loop-at : goal.invariant-loop-at

@@ -1,6 +1,7 @@
 use Rattle.std.proofs.Common.{◌≡◌, ◌<◌, ◌≤◌, ℕ, List, length, get_or, sym, ap, subst}
 use Rattle.hw_model.specs.declared.rule.Job.{Job}
-use Rattle.hw_tugs.specs.Kinds.{jobs_in, jobs_of}
+use Rattle.hw_tugs.specs.Kinds.{jobs_of}
+use Rattle.hw_rules.specs.Fleets.{jobs_in}
 use Rattle.hw_tugs.specs.Held.{IsLoad, IsForced}
 use Rattle.hw_tugs.proofs.Loads.{few_tugs, load_few, load_forced}
 use Rattle.hw_tugs.proofs.profile.TugProfilePropagator.step.Goals as goal

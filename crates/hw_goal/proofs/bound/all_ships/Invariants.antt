@@ -1,6 +1,0 @@
-use Rattle.std.proofs.Common.{◌≡◌, ◌++◌, ◌-◌}
-use Rattle.std.specs.List.{range_with_len}
-use Rattle.hw_goal.proofs.bound.all_ships.Given as goal
-
-abbrev pub invariant-loop-ship : goal.invariant-loop-ship
-invariant-loop-ship l = l.all.items ++ range_with_len l.ship (l.ships - l.ship) ≡ range_with_len 0 l.ships
