@@ -1,6 +1,6 @@
 //! What a plan leaves of its problem: fewer tugs, or the problem as of now.
 
-ghost use Rattle.std.specs.Prelude.{◌≡◌, ℕ, ◌-◌, ◌<◌, ◌≤◌, IfOk, Some, length, All, map, max, sum_by};
+ghost use Rattle.std.specs.Prelude.{◌≡◌, ℕ, ◌-◌, ◌<◌, ◌≤◌, IfOk, Some, length, All, map, max};
 ghost use Rattle.hw_model.specs.Limits.{JobFits, RuleFits};
 ghost use Rattle.hw_model.specs.Problem.{horizon, value_at};
 ghost use Rattle.hw_model.specs.Rules.{fleet_in};
@@ -58,24 +58,15 @@ fn over_rule(alloc: Global, v: ShipId, w: ShipId) -> Result<Rule, NoMemory>
     })
 }
 
-/// The tugs of a slot as of now, by the fleet and the tugs that are out, for a loop over slots that
-/// ascend.
-fn tugs_left(
-    fleet: &mut Fleet<'_>,
-    out: &mut Fleet<'_>,
-    jobs: &[Job],
-    wishes: &[Wish],
-    slot: Slot,
-) -> u32
-    requires few { length jobs.now ≤ MOST_SHIPS }
-    requires fit { All (JobFits (length wishes.now)) jobs.now }
-    ensures value { result ≡ max (fleet_in fleet.old.tugs fleet.old.later slot - fleet_in out.old.tugs out.old.later slot) (sum_by (held_by_gone wishes.now slot) jobs.now) }
+/// The tugs of a slot as of now, by the fleet, by the tugs that are out, and by those that are held
+/// by ships that are gone. For a loop over slots that ascend.
+fn tugs_left(fleet: &mut Fleet<'_>, out: &mut Fleet<'_>, gone: u32, slot: Slot) -> u32
+    ensures value { result ≡ max (fleet_in fleet.old.tugs fleet.old.later slot - fleet_in out.old.tugs out.old.later slot) gone }
     ensures fleet_onward { (s : ℕ) → slot ≤ s → fleet_in fleet.new.tugs fleet.new.later s ≡ fleet_in fleet.old.tugs fleet.old.later s }
     ensures out_onward { (s : ℕ) → slot ≤ s → fleet_in out.new.tugs out.new.later s ≡ fleet_in out.old.tugs out.old.later s }
 {
     let tugs = fleet.tugs_in(slot);
     let away = out.tugs_in(slot);
-    let gone = held_by_gone(jobs, wishes, slot);
     tugs.saturating_sub(away).max(gone)
 }
 
@@ -94,11 +85,13 @@ fn tugs_as_of(
     ensures { IfOk result (λ rule. rule ≡ tugs_by (fleet_as_of out.now wishes.now fleet.entry.tugs fleet.entry.later jobs.now) sailing jobs.now) }
 {
     let mut out = Fleet::new(0, out);
-    let first = tugs_left(&mut fleet, &mut out, jobs, wishes, 0);
+    let at_first = held_by_gone(jobs, wishes, 0);
+    let first = tugs_left(&mut fleet, &mut out, at_first, 0);
     let mut before = first;
     let mut steps = Vec::new(alloc);
     for slot in 1..sailing {
-        let tugs = tugs_left(&mut fleet, &mut out, jobs, wishes, slot);
+        let gone = held_by_gone(jobs, wishes, slot);
+        let tugs = tugs_left(&mut fleet, &mut out, gone, slot);
         if tugs != before {
             steps.push(Step {
                 from: slot,
