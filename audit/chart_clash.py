@@ -114,9 +114,7 @@ def draw(port, tide, kept, drops):
     means = (f"in red {len(kept)} of the restrictions: the certificate proves that no timetable meets them together; "
              "without any one of them there is one")
     sizes = f"ships {n}, slots {port['slots']} of {port['slot_minutes']} min, tugs {port['fleet']}"
-    out = (f'<svg xmlns="http://www.w3.org/2000/svg" width="1280" height="{height}" viewBox="0 0 1280 {height}" '
-           f'role="graphics-document" aria-label="{said}" xml:lang="en" xml:space="preserve">\n<title>{said}</title>\n')
-    out += chart.STYLE + MARKS + chart.block("gr", 0, 1280, 0, height) + chart.badge(None, True)
+    out = chart.root(chart.port_slots(port), height, said) + chart.STYLE + MARKS + chart.block("gr", 0, 1280, 0, height) + chart.badge(None, True)
     out += chart.line("h", 48, 36, said) + chart.line("m", 48, 56, means) + chart.line("m r", 1268, 36, sizes)
     out += rest_of(chart.chart_port(port, tide, None, False, more=entries), sizes) + '<g role="list">\n'
     for place, (number, table) in enumerate(zip(kept, drops)):

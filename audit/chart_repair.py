@@ -60,11 +60,9 @@ def title(table, ended, bound, moved, cargo, amount):
     return said if table is None else f"{said}, moved {moved}"
 
 
-def top_part(height, said, means, sizes, sign):
+def top_part(slots, height, said, means, sizes, sign):
     """The head of chart.py's pictures, with the sheet of the marks, the constant `MARKS` of `hw_chart_repair`, after the style sheet."""
-    out = (f'<svg xmlns="http://www.w3.org/2000/svg" width="1280" height="{height}" viewBox="0 0 1280 {height}" '
-           f'role="graphics-document" aria-label="{said}" xml:lang="en" xml:space="preserve">\n<title>{said}</title>\n')
-    out += chart.STYLE + MARKS + chart.block("gr", 0, 1280, 0, height) + sign
+    out = chart.root(slots, height, said) + chart.STYLE + MARKS + chart.block("gr", 0, 1280, 0, height) + sign
     return out + chart.line("h", 48, 36, said) + chart.line("m", 48, 56, means) + chart.line("m r", 1268, 36, sizes)
 
 
@@ -84,6 +82,8 @@ def entries(wishes, table, slots):
 def mark(v, wish, slot, slots, span, y, when):
     """The marks of a ship, whose row is at y. A ship that keeps its slot has none but its stripes.
 
+    Old v is marked as a slot of v by blocks of class `gh` and by signs, but for a ship that was planned to stay.
+
         over its slots    a frame of 23 at y+3, 23 tall, around: if it hasn't sailed and from v > 0, block ht 0 (from v) 0 21; if it is
                           moved and old v < slots, block gh old (old+1) 0 21, and if t_v < slots too, the line
                           block gh (min old t_v) (max old t_v + 1) 21 23
@@ -98,17 +98,18 @@ def mark(v, wish, slot, slots, span, y, when):
     moved, sailed = slot != old, slot == old and earliest is None and old < slots
     inside = chart.block("ht", 0, earliest, 0, 21) if earliest is not None and earliest > 0 else ""
     if moved and old < slots:
-        inside += chart.block("gh", old, old + 1, 0, 21)
+        inside += chart.owned_block("gh", v, old, old, old + 1, 0, 21)
         if slot < slots:
             inside += chart.block("gh", min(old, slot), max(old, slot) + 1, 21, 23)
     out = chart.frame(y + 3, 23, span, 23, inside)
     if moved:
         said = f"ship {v} was planned for slot {old}{when(old)}" if old < slots else f"ship {v} was planned to stay"
-        out += chart.titled_block("gh", 4, 12, y + 21, y + 33, said)
         if old < slots:
-            out += chart.pin("gh", old, span, y)
+            out += chart.owned_titled("gh", v, old, 4, 12, y + 21, y + 33, said) + chart.pin("gh", old, span, y)
+        else:
+            out += chart.titled_block("gh", 4, 12, y + 21, y + 33, said)
     elif sailed:
-        out += chart.titled_block("sd", 4, 12, y + 21, y + 33, f"ship {v} has sailed in slot {old}{when(old)}")
+        out += chart.owned_titled("sd", v, old, 4, 12, y + 21, y + 33, f"ship {v} has sailed in slot {old}{when(old)}")
         out += chart.pin("sd", old, span, y)
     return out
 
@@ -141,7 +142,7 @@ def draw_port(port, tide, wishes, table, ended, bound):
     cargo = 0 if table is None else sum(chart.value(port, tide, s, k) for s, k in zip(port["ships"], table) if k < slots)
     amount = lambda c: chart.tenths(c) + " t"
     sizes = f"ships {n}, slots {slots} of {port['slot_minutes']} min, tugs {port['fleet']}"
-    out = top_part(bottom + 28, title(table, ended, bound, moved, amount(cargo), amount), meaning(table, ended, bound), sizes,
+    out = top_part(chart.port_slots(port), bottom + 28, title(table, ended, bound, moved, amount(cargo), amount), meaning(table, ended, bound), sizes,
                    chart.badge(table, ended))
     out += rest_of(chart.chart_port(port, tide, table, False, more=entries(wishes, table, slots)), sizes)
     return out + marks(wishes, table, slots, span, rows, lambda slot: ", " + chart.when(port, slot)) + "</svg>\n"
@@ -157,7 +158,7 @@ def draw_flat(flat, wishes, table, ended, bound):
     moved = 0 if table is None else sum(t != w[0] for t, w in zip(table, wishes))
     cargo = "0" if table is None else str(sum(flat["values"][v][k] for v, k in enumerate(table)))
     sizes = f"ships {n}, slots {slots}, rules {len(flat['rules'])}"
-    out = top_part(bottom + 28, title(table, ended, bound, moved, cargo, str), meaning(table, ended, bound), sizes, chart.badge(table, ended))
+    out = top_part(chart.flat_slots(flat), bottom + 28, title(table, ended, bound, moved, cargo, str), meaning(table, ended, bound), sizes, chart.badge(table, ended))
     out += rest_of(chart.chart_flat(flat, table, False, more=entries(wishes, table, slots)), sizes)
     return out + marks(wishes, table, slots, span, 146, lambda slot: "") + "</svg>\n"
 

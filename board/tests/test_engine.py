@@ -199,7 +199,7 @@ def test_what_is_said_of_a_slot_is_what_the_program_says(runs: Runs, program: Pr
     drawn = program.ask("chart", "port", *contested.words(), Text(runs.get(number)["cert"], "cert")).output
     for ship, one in enumerate(told["ships"]):
         # Slots in which nothing is broken are those to which the picture says that the ship could move alone.
-        row = next(part for part in drawn.split('<g role="listitem">')[1:] if f">ship {ship}, full" in part)
+        row = drawn.split(f'<g data-ship="{ship}" ')[1]
         path = row.split('class="pl" d="')[1].split('"')[0]
         free, slot, level = set(), 0, "1"
         for word in path.replace("V", " V").replace("H", " H").split()[2:]:

@@ -4,7 +4,7 @@ use Rattle.std.specs.List.{concat}
 use Rattle.hw_chart_svg.specs.Figures.{steps}
 use Rattle.hw_chart_svg.specs.Lettering.{line}
 use Rattle.hw_chart_svg.specs.Shapes.{block}
-use Rattle.hw_chart_svg.specs.Sheets.{svg_end, window_begin}
+use Rattle.hw_chart_svg.specs.Sheets.{panel_begin, svg_end}
 use Rattle.hw_chart.specs.declared.panel.Panel.{Panel}
 use Rattle.hw_chart.specs.Figures.{full_level, greatest_level}
 use Rattle.hw_chart.specs.Layout.{plot}
@@ -21,7 +21,7 @@ abbrev pub panel_ground : Panel → List ℕ
 panel_ground p = block (codes "wi") (record { left = 0; right = p.slots; top = 0; bottom = panel_tall p })
 
 abbrev pub panel_window : Panel → List ℕ
-panel_window p = window_begin (plot p.y 56 p.span (panel_tall p))
+panel_window p = panel_begin (codes "tugs") p.place (plot p.y 56 p.span (panel_tall p))
 
 -- in each slot the tugs that are held, and the whole window where all are
 abbrev pub held_inside : Panel → (ℕ → ℕ) → List ℕ

@@ -2,14 +2,14 @@
 use Rattle.std.specs.Prelude.{ℕ, ◌+◌, ◌-◌, List, ◌++◌, codes}
 use Rattle.hw_chart_svg.specs.Figures.{steps}
 use Rattle.hw_chart_svg.specs.Lettering.{line}
-use Rattle.hw_chart_svg.specs.Shapes.{block}
-use Rattle.hw_chart_svg.specs.Sheets.{window, window_begin}
+use Rattle.hw_chart_svg.specs.Shapes.{block, owned_block}
+use Rattle.hw_chart_svg.specs.Sheets.{panel_begin, window, window_begin}
 use Rattle.hw_chart.specs.declared.row.Sailings.{Sailings}
 use Rattle.hw_chart.specs.Layout.{plot}
 
 -- the window of a ship's sailings, and the slots in which it might sail
 abbrev pub sailings_begin : Sailings → List ℕ
-sailings_begin s = window_begin (plot (s.y + 3) 21 s.span s.tall) ++ block (codes "wi") (record { left = s.first; right = s.end; top = 0; bottom = s.tall })
+sailings_begin s = panel_begin (codes "row") s.ship (plot (s.y + 3) 21 s.span s.tall) ++ block (codes "wi") (record { left = s.first; right = s.end; top = 0; bottom = s.tall })
 
 -- a figure over these slots
 abbrev pub sailing_steps : List ℕ → Sailings → (ℕ → ℕ) → List ℕ
@@ -17,7 +17,7 @@ sailing_steps class s level = steps class level s.first (s.end - s.first) s.tall
 
 -- the mark of a sailing in a slot, from a level down
 abbrev pub sailing_mark : List ℕ → Sailings → ℕ → ℕ → List ℕ
-sailing_mark class s slot level = block class (record { left = slot; right = slot + 1; top = level; bottom = s.tall })
+sailing_mark class s slot level = owned_block class (record { ship = s.ship; slot = slot }) (record { left = slot; right = slot + 1; top = level; bottom = s.tall })
 
 -- the slots to which a ship alone could move
 abbrev pub moves_window : ℕ → ℕ → (ℕ → ℕ) → ℕ → List ℕ

@@ -5,8 +5,8 @@ ghost use Rattle.hw_desk.specs.Writers.{Puts};
 ghost use Rattle.hw_chart.specs.Hours.{hours_ground, hours_label, planned_hours, unplanned_hours};
 
 use crate::levels::{Rising, Whole, greatest};
-use crate::panel::{Panel, panel_window, tall};
-use hw_chart_svg::{Levels, Piece, put_line, put_steps, put_svg_end, put_window_begin};
+use crate::panel::{Panel, put_panel_window, tall};
+use hw_chart_svg::{Levels, Piece, put_line, put_steps, put_svg_end};
 use hw_desk::Writer;
 
 /// Puts what a panel is, left of it, with the least and the greatest number of tugs.
@@ -48,7 +48,7 @@ pub fn put_unplanned_hours<W: Writer, F: Levels>(out: &mut W, panel: Panel, leas
     ensures { Puts (unplanned_hours panel least (F.level fleets.now)) (W.state out.old) (W.state out.new) }
 {
     put_hours_label(out, panel, least);
-    put_window_begin(out, panel_window(panel));
+    put_panel_window(out, panel);
     put_hours_ground(out, panel, fleets);
     put_svg_end(out);
 }
@@ -67,7 +67,7 @@ pub fn put_planned_hours<W: Writer, F: Levels, L: Levels>(
     ensures { Puts (planned_hours panel least (F.level fleets.now) (L.level held.now)) (W.state out.old) (W.state out.new) }
 {
     put_hours_label(out, panel, least);
-    put_window_begin(out, panel_window(panel));
+    put_panel_window(out, panel);
     put_hours_ground(out, panel, fleets);
     let tall = tall(panel);
     let rising = Rising {

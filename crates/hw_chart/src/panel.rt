@@ -3,19 +3,20 @@
 ghost use Rattle.std.specs.Prelude.{◌≡◌, ◌≤◌};
 ghost use Rattle.hw_desk.specs.Writers.{Puts};
 ghost use Rattle.hw_chart.specs.Layout.{plot};
-ghost use Rattle.hw_chart.specs.Panels.{fleet_label, panel_ground, panel_tall, planned_panel, unplanned_panel};
+ghost use Rattle.hw_chart.specs.Panels.{fleet_label, panel_ground, panel_tall, panel_window as window_text, planned_panel, unplanned_panel};
 
 use crate::layout::plot;
 use crate::levels::{Full, Rising, greatest};
 use hw_chart_svg::{
-    Area, Levels, Piece, Window, put_block, put_line, put_steps, put_svg_end, put_window_begin,
+    Area, Levels, Piece, Window, put_block, put_line, put_panel_begin, put_steps, put_svg_end,
 };
 use hw_desk::Writer;
 
-/// A panel of tugs: where it stands, how many tugs there are, in how many slots they are counted, and how many the
+/// A panel of tugs: its place among them, where it stands, how many tugs there are, in how many slots they are counted, and how many the
 /// picture shows.
 #[derive(Clone, Copy)]
 pub struct Panel {
+    pub place: u32,
     pub y: u32,
     pub fleet: u64,
     pub slots: u32,
@@ -45,10 +46,17 @@ pub(crate) fn tall(panel: Panel) -> u64
 }
 
 /// The window of a panel.
-pub(crate) fn panel_window(panel: Panel) -> Window
+fn panel_window(panel: Panel) -> Window
     ensures { result ≡ plot panel.y 56 panel.span (panel_tall panel) }
 {
     plot(u64::from(panel.y), 56, panel.span, tall(panel))
+}
+
+/// Puts the beginning of a panel's window.
+pub(crate) fn put_panel_window<W: Writer>(out: &mut W, panel: Panel)
+    ensures { Puts (window_text panel) (W.state out.old) (W.state out.new) }
+{
+    put_panel_begin(out, b"tugs", panel.place, panel_window(panel));
 }
 
 /// Puts the ground of a panel, over the slots in which tugs are counted.
@@ -69,7 +77,7 @@ pub fn put_unplanned_panel<W: Writer>(out: &mut W, panel: Panel)
     ensures { Puts (unplanned_panel panel) (W.state out.old) (W.state out.new) }
 {
     put_fleet_label(out, panel);
-    put_window_begin(out, panel_window(panel));
+    put_panel_window(out, panel);
     put_panel_ground(out, panel);
     put_svg_end(out);
 }
@@ -80,7 +88,7 @@ pub fn put_planned_panel<W: Writer, L: Levels>(out: &mut W, panel: Panel, held: 
     ensures { Puts (planned_panel panel (L.level held.now)) (W.state out.old) (W.state out.new) }
 {
     put_fleet_label(out, panel);
-    put_window_begin(out, panel_window(panel));
+    put_panel_window(out, panel);
     put_panel_ground(out, panel);
     let tall = tall(panel);
     let rising = Rising {

@@ -6,14 +6,17 @@ ghost use Rattle.hw_chart.specs.Rows.{bar, bars_begin, moves_window, no_slot, sa
 
 use crate::layout::plot;
 use hw_chart_svg::{
-    Area, Levels, Piece, put_block, put_line, put_steps, put_svg_end, put_window_begin,
+    Area, Levels, Owner, Piece, put_block, put_line, put_owned_block, put_panel_begin, put_steps,
+    put_svg_end, put_window_begin,
 };
 use hw_desk::Writer;
+use hw_model::{ShipId, Slot};
 
-/// The window of a ship's sailings: where its row stands, how many slots the picture shows, how tall the window is in
+/// The window of a ship's sailings: whose it is, where its row stands, how many slots the picture shows, how tall the window is in
 /// units of its own, and the slots from the first to before the end in which the ship might sail.
 #[derive(Clone, Copy)]
 pub struct Sailings {
+    pub ship: ShipId,
     pub y: u32,
     pub span: u32,
     pub tall: u64,
@@ -32,7 +35,8 @@ pub fn put_sailings_begin<W: Writer>(out: &mut W, sailings: Sailings)
         top: 0,
         bottom: sailings.tall,
     };
-    put_window_begin(out, plot(y, 21, sailings.span, sailings.tall));
+    let window = plot(y, 21, sailings.span, sailings.tall);
+    put_panel_begin(out, b"row", sailings.ship, window);
     put_block(out, b"wi", area);
 }
 
@@ -61,7 +65,7 @@ pub fn put_sailing_mark<W: Writer>(
     out: &mut W,
     class: &[u8],
     sailings: Sailings,
-    slot: u32,
+    slot: Slot,
     level: u64,
 )
     ensures { Puts (sailing_mark class.now sailings slot level) (W.state out.old) (W.state out.new) }
@@ -72,7 +76,8 @@ pub fn put_sailing_mark<W: Writer>(
         top: level,
         bottom: sailings.tall,
     };
-    put_block(out, class, area);
+    let ship = sailings.ship;
+    put_owned_block(out, class, Owner { ship, slot }, area);
 }
 
 /// Puts the window of the slots to which a ship alone could move.

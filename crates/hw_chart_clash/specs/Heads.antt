@@ -7,7 +7,7 @@ use Rattle.hw_chart_svg.specs.Sheets.{picture_begin}
 use Rattle.hw_chart.specs.Headings.{ground, style}
 use Rattle.hw_chart.specs.Outcomes.{badge}
 use Rattle.hw_port.specs.Whole.{Parts}
-use Rattle.hw_chart_port.specs.Heads.{places, sizes}
+use Rattle.hw_chart_port.specs.Heads.{places, port_slots, sizes}
 use Rattle.hw_chart_clash.specs.declared.sheet.TheConstants.{CLASH_MARKS}
 
 -- the style sheet of the marks is one constant
@@ -29,4 +29,4 @@ abbrev pub clash_begin : ℕ → List ℕ
 clash_begin height = concat (picture_begin 1280 height clash_title ∷ style ∷ clash_style ∷ ground height ∷ badge Infeasible ∷ [])
 
 abbrev pub clash_head : Parts → ℕ → List ℕ
-clash_head p count = clash_begin ((places p).bottom + 28) ++ clash_heading_lines count (sizes p)
+clash_head p count = concat (port_slots p ∷ clash_begin ((places p).bottom + 28) ∷ clash_heading_lines count (sizes p) ∷ [])

@@ -10,7 +10,7 @@ ghost use Rattle.hw_chart_clash.specs.Heads.{clash_begin, clash_head, clash_head
 use crate::sheet::put_clash_style;
 use hw_cert_lines::Verdict;
 use hw_chart::{put_badge, put_ground, put_style};
-use hw_chart_port::{places_of, sizes};
+use hw_chart_port::{places_of, put_port_slots, sizes};
 use hw_chart_svg::{Piece, put_line, put_picture_begin};
 use hw_desk::Writer;
 use hw_port::Port;
@@ -84,6 +84,7 @@ fn put_port_lines<W: Writer>(out: &mut W, port: &Port, count: u64)
 pub fn put_clash_head<W: Writer>(out: &mut W, port: &Port, count: u64)
     ensures { Puts (clash_head port.now count) (W.state out.old) (W.state out.new) }
 {
+    put_port_slots(out, port.parts());
     put_clash_begin(out, height(port));
     put_port_lines(out, port, count);
 }

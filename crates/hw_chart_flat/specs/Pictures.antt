@@ -5,7 +5,7 @@ use Rattle.hw_model.specs.declared.rule.Rule.{Rule}
 use Rattle.hw_model.specs.Problem.{Problem, horizon}
 use Rattle.hw_model.specs.Rules.{busy}
 use Rattle.hw_chart_svg.specs.Lettering.{line}
-use Rattle.hw_chart_svg.specs.Sheets.{list_of, svg_end}
+use Rattle.hw_chart_svg.specs.Sheets.{list_of, slots_begin, svg_end}
 use Rattle.hw_chart.specs.declared.grid.Scale.TheVariants.{Slots}
 use Rattle.hw_chart.specs.declared.outcome.CargoUnit.TheVariants.{Plain}
 use Rattle.hw_chart.specs.declared.outcome.Outcome.{Outcome}
@@ -37,39 +37,40 @@ flat_head f table outcome = heading Plain outcome (flat_picture_bottom f + 28) (
 unfoldable pub flat_columns : List ℕ
 flat_columns = line (codes "m r") 956 138 (codes "slot") ++ line (codes "m r") 1268 138 (codes "value")
 
--- a panel for the fleet of a rule, as high as the greatest number of its tugs
+-- a panel for the fleet of a rule at a place among the panels, as high as the greatest number of its tugs
 abbrev pub flat_panel_of : Problem → ℕ → ℕ → Rule → Panel
-flat_panel_of f span y rule = record { y = y; fleet = greatest_fleet (first_fleet rule) (steps_of rule); slots = horizon f; span = span }
+flat_panel_of f span place rule = record { place = place; y = panels_y f + 66 * place; fleet = greatest_fleet (first_fleet rule) (steps_of rule); slots = horizon f; span = span }
 
 -- what there is of a fleet, by the hour where it has steps
 abbrev pub unplanned_fleet : Problem → ℕ → ℕ → Rule → List ℕ
-unplanned_fleet f span y rule =
-    if has_steps rule then unplanned_hours (flat_panel_of f span y rule) (least_fleet (first_fleet rule) (steps_of rule)) (rule_fleet rule)
-    else unplanned_panel (flat_panel_of f span y rule)
+unplanned_fleet f span place rule =
+    if has_steps rule then unplanned_hours (flat_panel_of f span place rule) (least_fleet (first_fleet rule) (steps_of rule)) (rule_fleet rule)
+    else unplanned_panel (flat_panel_of f span place rule)
 
 -- and beside it the tugs that a timetable holds in each slot
 abbrev pub planned_fleet : Problem → List ℕ → ℕ → ℕ → Rule → List ℕ
-planned_fleet f table span y rule =
-    if has_steps rule then planned_hours (flat_panel_of f span y rule) (least_fleet (first_fleet rule) (steps_of rule)) (rule_fleet rule) (busy rule table)
-    else planned_panel (flat_panel_of f span y rule) (busy rule table)
+planned_fleet f table span place rule =
+    if has_steps rule then planned_hours (flat_panel_of f span place rule) (least_fleet (first_fleet rule) (steps_of rule)) (rule_fleet rule) (busy rule table)
+    else planned_panel (flat_panel_of f span place rule) (busy rule table)
 
+-- the panels from this place on
 abbrev pub unplanned_panels : Problem → ℕ → ℕ → List Rule → List ℕ
-unplanned_panels f span y [] = []
-unplanned_panels f span y (rule ∷ rules) = unplanned_fleet f span y rule ++ unplanned_panels f span (y + 66) rules
+unplanned_panels f span place [] = []
+unplanned_panels f span place (rule ∷ rules) = unplanned_fleet f span place rule ++ unplanned_panels f span (place + 1) rules
 
 -- the tugs that each fleet holds in each slot
 abbrev pub planned_panels : Problem → List ℕ → ℕ → ℕ → List Rule → List ℕ
-planned_panels f table span y [] = []
-planned_panels f table span y (rule ∷ rules) = planned_fleet f table span y rule ++ planned_panels f table span (y + 66) rules
+planned_panels f table span place [] = []
+planned_panels f table span place (rule ∷ rules) = planned_fleet f table span place rule ++ planned_panels f table span (place + 1) rules
 
 unfoldable pub flat_foot : Problem → ℕ → List ℕ
 flat_foot f span = concat (grid Slots span (flat_picture_bottom f) ∷ span_end (horizon f) span (flat_picture_bottom f) ∷ svg_end ∷ [])
 
 unfoldable pub unplanned_body : Problem → List ℕ
-unplanned_body f = concat (list_of (unplanned_rows f 0 f.ships) ∷ unplanned_panels f (horizon f) (panels_y f) (fleets f) ∷ [])
+unplanned_body f = concat (list_of (unplanned_rows f 0 f.ships) ∷ unplanned_panels f (horizon f) 0 (fleets f) ∷ [])
 
 unfoldable pub planned_body : Problem → List ℕ → List ℕ
-planned_body f table = concat (flat_columns ∷ list_of (planned_rows f table 0 f.ships) ∷ planned_panels f table (picture_span f (Some table)) (panels_y f) (fleets f) ∷ [])
+planned_body f table = concat (flat_columns ∷ list_of (planned_rows f table 0 f.ships) ∷ planned_panels f table (picture_span f (Some table)) 0 (fleets f) ∷ [])
 
 unfoldable pub body : Problem → Option (List ℕ) → List ℕ
 body f None = unplanned_body f
@@ -77,4 +78,4 @@ body f (Some table) = planned_body f table
 
 -- the whole text: what a certificate shows, and the timetable, if there is one
 unfoldable pub flat_picture : Problem → Option (List ℕ) → Outcome → List ℕ
-flat_picture f table outcome = concat (flat_head f table outcome ∷ body f table ∷ flat_foot f (picture_span f table) ∷ [])
+flat_picture f table outcome = concat (slots_begin (horizon f) ∷ flat_head f table outcome ∷ body f table ∷ flat_foot f (picture_span f table) ∷ [])

@@ -7,7 +7,7 @@ use Rattle.hw_model.specs.declared.rule.Rule.TheVariants.{Pair, After, Tugs}
 use Rattle.hw_model.specs.Problem.{Problem, horizon, value_at}
 use Rattle.hw_flat.specs.Carried.{worth}
 use Rattle.hw_chart_svg.specs.Lettering.{line}
-use Rattle.hw_chart_svg.specs.Sheets.{group_end, item_begin, svg_end, title_end}
+use Rattle.hw_chart_svg.specs.Sheets.{group_end, ship_item_begin, svg_end, title_end}
 use Rattle.hw_chart.specs.declared.course.Course.{Course}
 use Rattle.hw_chart.specs.declared.course.Course.TheVariants.{Unplanned, Stays, Sails}
 use Rattle.hw_chart.specs.declared.row.Sailings.{Sailings}
@@ -31,7 +31,7 @@ course_text f ship Stays = codes ", stays"
 course_text f ship (Sails slot) = concat (codes ", sails in slot " ∷ decimal slot ∷ codes ", carries " ∷ decimal (worth f ship slot) ∷ [])
 
 unfoldable pub flat_row_title : Problem → Row → List ℕ
-flat_row_title f row = concat (item_begin ∷ codes "ship " ∷ decimal row.ship ∷ course_text f row.ship row.course ∷ title_end ∷ [])
+flat_row_title f row = concat (ship_item_begin row.ship ∷ codes "ship " ∷ decimal row.ship ∷ course_text f row.ship row.course ∷ title_end ∷ [])
 
 -- the ship's number, and the most that it may carry
 unfoldable pub flat_row_label : Problem → Row → List ℕ
@@ -39,7 +39,7 @@ flat_row_label f row = line (codes "b") 16 (row_top row + 17) (concat (codes "sh
 
 -- the window of a ship's values
 abbrev pub value_window : Problem → Row → Sailings
-value_window f row = record { y = row_top row; span = row.span; tall = tall_of (most_carried f row.ship); first = 0; end = horizon f }
+value_window f row = record { ship = row.ship; y = row_top row; span = row.span; tall = tall_of (most_carried f row.ship); first = 0; end = horizon f }
 
 -- the mark of the slot in which a ship sails
 abbrev pub value_mark : Problem → Row → Course → List ℕ

@@ -10,7 +10,7 @@ ghost use Rattle.hw_chart_flat.specs.Rows.{course_text, flat_figures, flat_row_t
 use crate::row::{Row, row_y};
 use crate::values::most;
 use hw_chart::Course;
-use hw_chart_svg::{Piece, put_item_begin, put_line, put_pieces, put_title_end};
+use hw_chart_svg::{Piece, put_line, put_pieces, put_ship_item_begin, put_title_end};
 use hw_desk::Writer;
 use hw_flat::Flat;
 use hw_model::{MOST_SHIPS, ShipId, Slot};
@@ -54,7 +54,7 @@ pub(crate) fn put_row_title<W: Writer>(out: &mut W, flat: &Flat, row: Row)
     requires before { SailsBefore (horizon flat.now) row.course }
     ensures { Puts (flat_row_title flat.now row) (W.state out.old) (W.state out.new) }
 {
-    put_item_begin(out);
+    put_ship_item_begin(out, row.ship);
     out.put(b"ship ");
     out.put_number(u64::from(row.ship));
     put_course(out, flat, row.ship, row.course);

@@ -8,7 +8,7 @@ ghost use Rattle.hw_desk.specs.Writers.{Puts};
 ghost use Rattle.hw_chart_flat.specs.Fleets.{first_fleet, fleets_in, least_fleet, steps_of};
 ghost use Rattle.hw_rules.specs.Fleets.{rule_fleet};
 ghost use Rattle.hw_chart_flat.specs.Marks.{is_held_whole};
-ghost use Rattle.hw_chart_flat.specs.Pictures.{flat_panel_of, planned_fleet, planned_panels, unplanned_fleet, unplanned_panels};
+ghost use Rattle.hw_chart_flat.specs.Pictures.{flat_panel_of, panels_y, planned_fleet, planned_panels, unplanned_fleet, unplanned_panels};
 
 use crate::fleets::{Fleets, fleet_size, greatest_fleet, has_steps, least_fleet, next, steps};
 use hw_chart::{
@@ -54,12 +54,22 @@ impl Levels for Hours<'_> {
     }
 }
 
-/// The panel of a fleet.
-fn panel(flat: &Flat, span: u32, y: u32, rule: &Rule) -> Panel
-    ensures { result ≡ flat_panel_of flat.now span y rule.now }
+/// Where the first panel stands.
+pub(crate) fn panels_y(flat: &Flat) -> u32
+    ensures value { result ≡ panels_y flat.now }
+    ensures small { result ≤ 2_000 }
+{
+    156 + 42 * flat.shape().ships
+}
+
+/// The panel of a fleet, at a place among the panels.
+fn panel(flat: &Flat, span: u32, place: u32, rule: &Rule) -> Panel
+    requires { place ≤ 8 }
+    ensures { result ≡ flat_panel_of flat.now span place rule.now }
 {
     Panel {
-        y,
+        place,
+        y: panels_y(flat) + 66 * place,
         fleet: u64::from(greatest_fleet(fleet_size(rule), steps(rule))),
         slots: flat.horizon(),
         span,
@@ -74,10 +84,11 @@ fn least(rule: &Rule) -> u64
 }
 
 /// Puts the panel of a fleet where there is no timetable.
-fn put_unplanned_fleet<W: Writer>(out: &mut W, flat: &Flat, span: u32, y: u32, rule: &Rule)
-    ensures { Puts (unplanned_fleet flat.now span y rule.now) (W.state out.old) (W.state out.new) }
+fn put_unplanned_fleet<W: Writer>(out: &mut W, flat: &Flat, span: u32, place: u32, rule: &Rule)
+    requires { place ≤ 8 }
+    ensures { Puts (unplanned_fleet flat.now span place rule.now) (W.state out.old) (W.state out.new) }
 {
-    let panel = panel(flat, span, y, rule);
+    let panel = panel(flat, span, place, rule);
     if has_steps(rule) {
         put_unplanned_hours(out, panel, least(rule), &Hours { rule });
     } else {
@@ -91,13 +102,14 @@ fn put_planned_fleet<W: Writer>(
     flat: &Flat,
     table: &Timetable,
     span: u32,
-    y: u32,
+    place: u32,
     rule: &Rule,
 )
-    requires { RuleFits (length table.now) rule.now }
-    ensures { Puts (planned_fleet flat.now table.now span y rule.now) (W.state out.old) (W.state out.new) }
+    requires fits { RuleFits (length table.now) rule.now }
+    requires place { place ≤ 8 }
+    ensures { Puts (planned_fleet flat.now table.now span place rule.now) (W.state out.old) (W.state out.new) }
 {
-    let panel = panel(flat, span, y, rule);
+    let panel = panel(flat, span, place, rule);
     let held = Held { rule, table };
     if has_steps(rule) {
         put_planned_hours(out, panel, least(rule), &Hours { rule }, &held);
@@ -106,39 +118,39 @@ fn put_planned_fleet<W: Writer>(
     }
 }
 
-/// Puts the panels of fleets where there is no timetable, the first at `y`.
+/// Puts the panels of fleets where there is no timetable, the first at a place.
 pub(crate) fn put_unplanned_panels<W: Writer>(
     out: &mut W,
     flat: &Flat,
     span: u32,
-    y: u32,
+    place: u32,
     fleets: Fleets,
 )
-    requires { y + 66 * fleets.left ≤ 10_000 }
-    ensures { Puts (unplanned_panels flat.now span y (fleets_in fleets.entry)) (W.state out.old) (W.state out.new) }
+    requires { place + fleets.left ≤ 8 }
+    ensures { Puts (unplanned_panels flat.now span place (fleets_in fleets.entry)) (W.state out.old) (W.state out.new) }
 {
     if let Some(found) = next(fleets) {
-        put_unplanned_fleet(out, flat, span, y, found.rule);
-        put_unplanned_panels(out, flat, span, y + 66, found.rest);
+        put_unplanned_fleet(out, flat, span, place, found.rule);
+        put_unplanned_panels(out, flat, span, place + 1, found.rest);
     }
 }
 
-/// Puts the panels of fleets with the tugs that each holds in each slot, the first at `y`.
+/// Puts the panels of fleets with the tugs that each holds in each slot, the first at a place.
 pub(crate) fn put_planned_panels<W: Writer>(
     out: &mut W,
     flat: &Flat,
     table: &Timetable,
     span: u32,
-    y: u32,
+    place: u32,
     fleets: Fleets,
 )
     requires fit { All (RuleFits (length table.now)) fleets.rules.now }
-    requires below { y + 66 * fleets.left ≤ 10_000 }
-    ensures { Puts (planned_panels flat.now table.now span y (fleets_in fleets.entry)) (W.state out.old) (W.state out.new) }
+    requires below { place + fleets.left ≤ 8 }
+    ensures { Puts (planned_panels flat.now table.now span place (fleets_in fleets.entry)) (W.state out.old) (W.state out.new) }
 {
     if let Some(found) = next(fleets) {
-        put_planned_fleet(out, flat, table, span, y, found.rule);
-        put_planned_panels(out, flat, table, span, y + 66, found.rest);
+        put_planned_fleet(out, flat, table, span, place, found.rule);
+        put_planned_panels(out, flat, table, span, place + 1, found.rest);
     }
 }
 

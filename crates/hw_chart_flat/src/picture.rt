@@ -9,7 +9,7 @@ ghost use Rattle.hw_chart_svg.specs.Pieces.{picture_pieces_text};
 use crate::plan::Plan;
 use crate::rest::{bottom, put_flat_rest};
 use hw_chart::{CargoUnit, Outcome, put_heading};
-use hw_chart_svg::{Piece, put_svg_end};
+use hw_chart_svg::{Piece, put_slots_begin, put_svg_end};
 use hw_desk::Writer;
 use hw_flat::Flat;
 
@@ -39,6 +39,7 @@ pub fn put_flat_picture<W: Writer>(out: &mut W, flat: &Flat, plan: Option<&Plan>
     ensures { Puts (flat_picture flat.now (option_map (λ p. p.now.table) plan.entry) outcome) (W.state out.old) (W.state out.new) }
 {
     let height = u64::from(bottom(flat)) + 28;
+    put_slots_begin(out, u64::from(flat.horizon()));
     put_heading(out, CargoUnit::Plain, outcome, height, &sizes(flat));
     put_flat_rest(out, flat, plan, &[]);
     put_svg_end(out);

@@ -5,12 +5,12 @@ ghost use Rattle.hw_desk.specs.Writers.{Puts};
 ghost use Rattle.hw_chart.specs.Legends.{HasShortWords, legend_parts};
 ghost use Rattle.hw_chart_flat.specs.Fleets.{picture_span};
 ghost use Rattle.hw_chart_flat.specs.Moves.{IsPlan};
-ghost use Rattle.hw_chart_flat.specs.Pictures.{body, flat_picture_bottom, panels_y, planned_body, unplanned_body};
+ghost use Rattle.hw_chart_flat.specs.Pictures.{body, flat_picture_bottom, planned_body, unplanned_body};
 ghost use Rattle.hw_chart_flat.specs.Rests.{flat_rest};
 
 use crate::fleets::{count, fleets_of};
 use crate::legend::put_legend;
-use crate::panels::{put_planned_panels, put_unplanned_panels};
+use crate::panels::{panels_y, put_planned_panels, put_unplanned_panels};
 use crate::plan::Plan;
 use crate::rows::{put_planned_rows, put_unplanned_rows};
 use crate::span::span;
@@ -31,14 +31,6 @@ pub fn slots_shown(flat: &Flat, plan: Option<&Plan>) -> u32
         None => flat.horizon(),
         Some(plan) => span(flat, plan.table()),
     }
-}
-
-/// Where the first panel stands.
-fn panels_y(flat: &Flat) -> u32
-    ensures value { result ≡ panels_y flat.now }
-    ensures small { result ≤ 2_000 }
-{
-    156 + 42 * flat.shape().ships
 }
 
 /// Where the plot ends.
@@ -62,14 +54,7 @@ fn put_planned_body<W: Writer>(out: &mut W, flat: &Flat, plan: &Plan, span: u32)
     put_list_begin(out);
     put_planned_rows(out, flat, plan, span);
     put_group_end(out);
-    put_planned_panels(
-        out,
-        flat,
-        plan.table(),
-        span,
-        panels_y(flat),
-        fleets_of(flat),
-    );
+    put_planned_panels(out, flat, plan.table(), span, 0, fleets_of(flat));
 }
 
 /// Puts the rows and panels where there is no timetable.
@@ -80,7 +65,7 @@ fn put_unplanned_body<W: Writer>(out: &mut W, flat: &Flat)
     put_list_begin(out);
     put_unplanned_rows(out, flat);
     put_group_end(out);
-    put_unplanned_panels(out, flat, flat.horizon(), panels_y(flat), fleets_of(flat));
+    put_unplanned_panels(out, flat, flat.horizon(), 0, fleets_of(flat));
 }
 
 /// Puts the rows and the panels, with a timetable or without one.

@@ -43,6 +43,7 @@ fn value_window(flat: &Flat, row: Row) -> Sailings
     ensures { result ≡ value_window flat.now row }
 {
     Sailings {
+        ship: row.ship,
         y: row_y(row),
         span: row.span,
         tall: tall(most(flat, row.ship)),

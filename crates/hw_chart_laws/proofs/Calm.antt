@@ -6,18 +6,19 @@ use Rattle.hw_lemmas.proofs.Truths.{was_not}
 use Rattle.hw_chart_svg.specs.Lettering.{line, name_line, shortened_line, text_begin}
 use Rattle.hw_chart_svg.specs.Marks.{is_word}
 use Rattle.hw_chart_svg.specs.Names.{escaped}
-use Rattle.hw_chart_svg.specs.Shapes.{shape, shape_begin, titled}
+use Rattle.hw_chart_svg.specs.Shapes.{owned_begin, owned_block, owned_titled, shape, shape_begin, titled}
 use Rattle.hw_chart_svg.specs.Shortened.{shortened}
-use Rattle.hw_chart_svg.specs.Sheets.{group_end, svg_end, window_begin}
+use Rattle.hw_chart_svg.specs.Sheets.{group_end, panel_begin, svg_end, window_begin, window_box}
 use Rattle.hw_chart_svg.specs.Widths.{width_of}
 use Rattle.hw_chart_svg.specs.declared.area.Area.{Area}
+use Rattle.hw_chart_svg.specs.declared.shape.Owner.{Owner}
 use Rattle.hw_chart_svg.specs.declared.sheet.Window.{Window}
 use Rattle.hw_chart_svg.proofs.Words.{name_is_word}
 use Rattle.hw_chart.specs.Hatches.{hatch}
 use Rattle.hw_chart_laws.specs.Trees.{is_plain_byte}
 use Rattle.hw_chart_laws.proofs.Plain.{Plain, area, number}
 use Rattle.hw_chart_laws.proofs.Spelled.{Spelled}
-use Rattle.hw_chart_laws.proofs.Writing.{Tags, Writing}
+use Rattle.hw_chart_laws.proofs.Writing.{Marking, Tags, Writing}
 
 -- what follows a mark < is the letter g; so it may be where nothing follows
 abbrev pub is_group : List ℕ → Bool
@@ -88,7 +89,7 @@ still_begin x y c = both (fixed (codes "<text class=\"") refl) (both (plain c) (
 still_line : {class text : List ℕ} (x y : ℕ) → Plain class → Spelled text → Still (line class x y text)
 still_line x y c p = both (still_begin x y c) (both (fixed (codes ">") refl) (both (spelled p) (both (fixed (codes "</text>\n") refl) (fixed [] refl))))
 
-still_escaped : (name : List ℕ) → Still (escaped name)
+pub still_escaped : (name : List ℕ) → Still (escaped name)
 still_escaped name = record { calm = words_calm (escaped name) (name_is_word name) }
 
 still_shortened : {class : List ℕ} (x y : ℕ) (name : List ℕ) (place : ℕ) → Plain class → Still (shortened_line class x y name place)
@@ -100,9 +101,27 @@ still_whole x y name c = both (still_begin x y c) (both (fixed (codes ">") refl)
 still_name : {class : List ℕ} (x y : ℕ) (name : List ℕ) (place : ℕ) → Plain class → Still (name_line class x y name place)
 still_name x y name place c = cond_both (nat_lt place (width_of name)) _ _ Still (λ e. still_shortened x y name place c) (λ e. still_whole x y name c)
 
+still_box : (w : Window) → Still (window_box w)
+unfolding window_box
+still_box w = both (fixed (codes " x=\"") refl) (both (plain (number w.x)) (both (fixed (codes "\" y=\"") refl) (both (plain (number w.y)) (both (fixed (codes "\" width=\"") refl) (both (plain (number w.width)) (both (fixed (codes "\" height=\"") refl) (both (plain (number w.height)) (both (fixed (codes "\" viewBox=\"0 0 ") refl) (both (plain (number w.across)) (both (fixed (codes " ") refl) (both (plain (number w.down)) (both (fixed (codes "\" preserveAspectRatio=\"none\">\n") refl) (fixed [] refl)))))))))))))
+
 still_window : (w : Window) → Still (window_begin w)
 unfolding window_begin
-still_window w = both (fixed (codes "<svg x=\"") refl) (both (plain (number w.x)) (both (fixed (codes "\" y=\"") refl) (both (plain (number w.y)) (both (fixed (codes "\" width=\"") refl) (both (plain (number w.width)) (both (fixed (codes "\" height=\"") refl) (both (plain (number w.height)) (both (fixed (codes "\" viewBox=\"0 0 ") refl) (both (plain (number w.across)) (both (fixed (codes " ") refl) (both (plain (number w.down)) (both (fixed (codes "\" preserveAspectRatio=\"none\">\n") refl) (fixed [] refl)))))))))))))
+still_window w = both (fixed (codes "<svg") refl) (still_box w)
+
+still_panel : {kind : List ℕ} (place : ℕ) (w : Window) → Plain kind → Still (panel_begin kind place w)
+unfolding panel_begin
+still_panel place w k = both (fixed (codes "<svg data-panel=\"") refl) (both (plain k) (both (fixed (codes "\" data-place=\"") refl) (both (plain (number place)) (both (fixed (codes "\"") refl) (both (still_box w) (fixed [] refl))))))
+
+still_owned : {class : List ℕ} (o : Owner) → Plain class → Still (owned_begin class o)
+unfolding owned_begin
+still_owned o c = both (fixed (codes "<path data-ship=\"") refl) (both (plain (number o.ship)) (both (fixed (codes "\" data-slot=\"") refl) (both (plain (number o.slot)) (both (fixed (codes "\" class=\"") refl) (both (plain c) (both (fixed (codes "\" d=\"") refl) (fixed [] refl)))))))
+
+still_owned_block : {class : List ℕ} (o : Owner) (a : Area) → Plain class → Still (owned_block class o a)
+still_owned_block o a c = both (still_owned o c) (both (plain (area a)) (both (fixed (codes "\"/>\n") refl) (fixed [] refl)))
+
+still_owned_titled : {class title : List ℕ} (o : Owner) (a : Area) → Plain class → Spelled title → Still (owned_titled class o a title)
+still_owned_titled o a c p = both (still_owned o c) (both (plain (area a)) (both (fixed (codes "\"><title>") refl) (both (spelled p) (both (fixed (codes "</title></path>\n") refl) (fixed [] refl)))))
 
 still_hatch : Still hatch
 unfolding hatch
@@ -124,4 +143,11 @@ calm_writing = record {
   closed = record { still = fixed svg_end refl };
   finished = record { still = fixed group_end refl };
   hatching = record { still = still_hatch };
+}
+
+pub calm_marking : Marking Calm
+calm_marking = record {
+  paneled = λ place w k. record { still = still_panel place w k };
+  owned = λ o a c. record { still = still_owned_block o a c };
+  owned_named = λ o a c p. record { still = still_owned_titled o a c p };
 }

@@ -5,24 +5,29 @@ use Rattle.std.specs.List.{list_all}
 use Rattle.std.proofs.lemmas.Bool.{and_from}
 use Rattle.hw_chart_svg.specs.Lettering.{line, name_line, text_begin}
 use Rattle.hw_chart_svg.specs.Names.{byte_text, escaped}
-use Rattle.hw_chart_svg.specs.Shapes.{area_path, shape, shape_begin, titled}
+use Rattle.hw_chart_svg.specs.Shapes.{area_path, owned_begin, owned_block, owned_titled, shape, shape_begin, titled}
 use Rattle.hw_chart_svg.specs.Shortened.{shortened}
-use Rattle.hw_chart_svg.specs.Sheets.{group_end, item_begin, list_begin, svg_end, title_end, window_begin}
+use Rattle.hw_chart_svg.specs.Sheets.{group_end, list_begin, panel_begin, ship_item_begin, svg_end, title_end, window_begin, window_box}
 use Rattle.hw_chart_svg.specs.Trees.{Attribute, Node, Nodes, words, element, no_more, node, nodes_text}
-use Rattle.hw_chart_svg.specs.WellFormed.{attribute, on_a_line, name_nodes, shape_node, place_attributes, title_node, window_attributes}
+use Rattle.hw_chart_svg.specs.WellFormed.{attribute, on_a_line, name_nodes, owned_node, panel_attributes, shape_node, ship_attributes, place_attributes, title_node, window_attributes}
 use Rattle.hw_chart_svg.specs.Widths.{width_of}
 use Rattle.hw_chart_svg.specs.declared.area.Area.{Area}
+use Rattle.hw_chart_svg.specs.declared.shape.Owner.{Owner}
 use Rattle.hw_chart_svg.specs.declared.sheet.Window.{Window}
-use Rattle.hw_chart_svg.proofs.Nested.{name_nested, titled_nested}
+use Rattle.hw_chart_svg.proofs.Nested.{name_nested, owned_nested, titled_nested}
 use Rattle.hw_chart.specs.Hatches.{hatch}
-use Rattle.hw_chart_laws.specs.Trees.{are_attributes, are_trees, is_attribute, is_element_name, is_other, is_tree}
+use Rattle.hw_chart_laws.specs.Trees.{are_attributes, are_trees, is_attribute, is_element_name, is_other, is_tree, is_value}
 use Rattle.hw_chart_laws.proofs.Plain.{Plain, area, both, letters, number}
 use Rattle.hw_chart_laws.proofs.Spelled.{Spelled}
-use Rattle.hw_chart_laws.proofs.Writing.{Tags, Writing, svg, group}
+use Rattle.hw_chart_laws.proofs.Values.{plain_value}
+use Rattle.hw_chart_laws.proofs.Writing.{Marking, Tags, Writing, svg, group}
 use Rattle.hw_chart_laws.proofs.Open.{Leads, begins, closes, grows, likewise, onward, start_text, unmoved}
 
+pub valued : (a : Attribute) (more : List Attribute) → is_element_name a.name ≡ true → is_value a.value ≡ true → list_all (is_other a.name) more ≡ true → are_attributes more ≡ true → are_attributes (a ∷ more) ≡ true
+valued a more name value other rest = and_from (is_attribute a) _ (and_from (is_element_name a.name) _ name value) (and_from (list_all (is_other a.name) more) _ other rest)
+
 pub kept : (a : Attribute) (more : List Attribute) → is_element_name a.name ≡ true → Plain a.value → list_all (is_other a.name) more ≡ true → are_attributes more ≡ true → are_attributes (a ∷ more) ≡ true
-kept a more name value other rest = and_from (is_attribute a) _ (and_from (is_element_name a.name) _ name value.none) (and_from (list_all (is_other a.name) more) _ other rest)
+kept a more name value other rest = valued a more name (plain_value a.value value.none) other rest
 
 on_line_tree : (part : Node) → is_tree part ≡ true → are_trees (on_a_line part) ≡ true
 on_line_tree part p = and_from (is_tree part) _ p refl
@@ -82,7 +87,7 @@ abbrev newline : Nodes
 newline = node (words (codes "\n")) no_more
 
 window_same : (w : Window) → window_begin w ≡ start_text svg (window_attributes w) ++ nodes_text newline
-unfolding byte_text window_begin
+unfolding byte_text window_begin window_box
 window_same w = simp (append_assoc, append-nil)
 
 window_kept : (w : Window) → are_attributes (window_attributes w) ≡ true
@@ -97,6 +102,45 @@ window_kept w =
 
 leads_window : {o : Tags} (w : Window) → Leads o (window_begin w) (svg ∷ o)
 leads_window w = likewise (window_same w) (begins svg (window_attributes w) newline refl (window_kept w) refl)
+
+panel_same : (kind : List ℕ) (place : ℕ) (w : Window) → panel_begin kind place w ≡ start_text svg (panel_attributes kind place w) ++ nodes_text newline
+unfolding byte_text panel_begin window_box
+panel_same kind place w = simp (append_assoc, append-nil)
+
+panel_kept : {kind : List ℕ} (place : ℕ) (w : Window) → Plain kind → are_attributes (panel_attributes kind place w) ≡ true
+panel_kept {kind = kind} place w k =
+    let a : List Attribute = window_attributes w in
+    let b : List Attribute = attribute (codes "data-place") (decimal place) ∷ a in
+    kept (attribute (codes "data-panel") kind) b refl k refl (kept (attribute (codes "data-place") (decimal place)) a refl (number place) refl (window_kept w))
+
+leads_panel : {o : Tags} {kind : List ℕ} (place : ℕ) (w : Window) → Plain kind → Leads o (panel_begin kind place w) (svg ∷ o)
+leads_panel {kind = kind} place w k = likewise (panel_same kind place w) (begins svg (panel_attributes kind place w) newline refl (panel_kept place w k) refl)
+
+owned_same : (class : List ℕ) (o : Owner) (a : Area) → owned_block class o a ≡ nodes_text (on_a_line (owned_node class o (area_path a) no_more))
+unfolding owned_begin byte_text
+owned_same class o a = simp (append_assoc, append-nil)
+
+owned_titled_same : (class : List ℕ) (o : Owner) (a : Area) (title : List ℕ) → owned_titled class o a (escaped title) ≡ nodes_text (on_a_line (owned_node class o (area_path a) (node (title_node title) no_more)))
+unfolding byte_text
+owned_titled_same class o a title = owned_nested class (area_path a) (escaped title) o
+
+owned_tree : {class path : List ℕ} (o : Owner) (inside : Nodes) → Plain class → Plain path → are_trees inside ≡ true → is_tree (owned_node class o path inside) ≡ true
+owned_tree {class = class} {path = path} o inside c p t =
+    let d : List Attribute = attribute (codes "d") path ∷ [] in
+    let k : List Attribute = attribute (codes "class") class ∷ d in
+    let l : List Attribute = attribute (codes "data-slot") (decimal o.slot) ∷ k in
+    and_from (are_attributes (attribute (codes "data-ship") (decimal o.ship) ∷ l)) _ (kept (attribute (codes "data-ship") (decimal o.ship)) l refl (number o.ship) refl (kept (attribute (codes "data-slot") (decimal o.slot)) k refl (number o.slot) refl (kept (attribute (codes "class") class) d refl c refl (kept (attribute (codes "d") path) [] refl p refl refl)))) t
+
+leads_owned : {o : Tags} {class : List ℕ} (owner : Owner) (a : Area) → Plain class → Leads o (owned_block class owner a) o
+leads_owned {class = class} owner a c =
+    let part : Node = owned_node class owner (area_path a) no_more in
+    likewise (owned_same class owner a) (grows (on_a_line part) (on_line_tree part (owned_tree owner no_more c (area a) refl)))
+
+leads_owned_titled : {o : Tags} {class title : List ℕ} (owner : Owner) (a : Area) → Plain class → Spelled title → Leads o (owned_titled class owner a title) o
+leads_owned_titled {class = class} {title = title} owner a c p =
+    let inside : Nodes = node (title_node p.from) no_more in
+    let part : Node = owned_node class owner (area_path a) inside in
+    likewise (ap (owned_titled class owner a) p.same ∙ owned_titled_same class owner a p.from) (grows (on_a_line part) (on_line_tree part (owned_tree owner inside c (area a) refl)))
 
 leads_svg_end : {o : Tags} → Leads (svg ∷ o) svg_end o
 unfolding byte_text
@@ -138,15 +182,21 @@ tree_writing = record {
   hatching = leads_hatch;
 }
 
+pub tree_marking : Marking Leads
+tree_marking = record { paneled = leads_panel; owned = leads_owned; owned_named = leads_owned_titled }
+
 -- a list begins
 pub leads_list : {o : Tags} → Leads o list_begin (group ∷ o)
 unfolding byte_text
 leads_list = begins group (attribute (codes "role") (codes "list") ∷ []) newline refl refl refl
 
-item_same : (title : List ℕ) → item_begin ++ (escaped title ++ title_end) ≡ start_text group (attribute (codes "role") (codes "listitem") ∷ []) ++ nodes_text (node (title_node title) newline)
-unfolding byte_text
-item_same title = simp (append_assoc, append-nil)
+item_same : (ship : ℕ) (title : List ℕ) → ship_item_begin ship ++ (escaped title ++ title_end) ≡ start_text group (ship_attributes ship) ++ nodes_text (node (title_node title) newline)
+unfolding byte_text ship_item_begin
+item_same ship title = simp (append_assoc, append-nil)
 
--- an item begins, with a title
-pub leads_item : {o : Tags} {title : List ℕ} → Spelled title → Leads o (item_begin ++ (title ++ title_end)) (group ∷ o)
-leads_item {title = title} p = likewise (ap (λ (l : List ℕ). item_begin ++ (l ++ title_end)) p.same ∙ item_same p.from) (begins group (attribute (codes "role") (codes "listitem") ∷ []) (node (title_node p.from) newline) refl refl refl)
+item_kept : (ship : ℕ) → are_attributes (ship_attributes ship) ≡ true
+item_kept ship = kept (attribute (codes "data-ship") (decimal ship)) (attribute (codes "role") (codes "listitem") ∷ []) refl (number ship) refl refl
+
+-- a ship's item begins, with a title
+pub leads_item : {o : Tags} {title : List ℕ} (ship : ℕ) → Spelled title → Leads o (ship_item_begin ship ++ (title ++ title_end)) (group ∷ o)
+leads_item {title = title} ship p = likewise (ap (λ (l : List ℕ). ship_item_begin ship ++ (l ++ title_end)) p.same ∙ item_same ship p.from) (begins group (ship_attributes ship) (node (title_node p.from) newline) refl (item_kept ship) refl)

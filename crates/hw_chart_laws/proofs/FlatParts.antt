@@ -26,7 +26,7 @@ use Rattle.hw_chart_flat.specs.Values.{most_carried, most_level, sails_nowhere, 
 use Rattle.hw_chart_laws.proofs.Legends.{AreSound, IsSound, of_legend_from}
 use Rattle.hw_chart_laws.proofs.Plain.{letters}
 use Rattle.hw_chart_laws.proofs.Spelled.{Spelled, also, fixed, of_number, nothing}
-use Rattle.hw_chart_laws.proofs.Writing.{Tags, Writing, group}
+use Rattle.hw_chart_laws.proofs.Writing.{Marking, Tags, Writing, group}
 use Rattle.hw_chart_laws.proofs.Shared.{figure, four, if_so, of_bar, of_mark, of_moves, of_no_slot, of_pin, of_planned, of_planned_hours, of_sailings, of_stays, of_stripe, of_unplanned, of_unplanned_hours, says, three}
 
 pub spelled_sizes : (f : Problem) → Spelled (flat_picture_sizes f)
@@ -61,18 +61,18 @@ module _ {P : Tags → List ℕ → Tags → Type 0} (w : Writing P) where
   unfolding flat_columns
   of_columns = w.onward (says w (codes "m r") refl 956 138 (fixed (codes "slot") refl)) (says w (codes "m r") refl 1268 138 (fixed (codes "value") refl))
 
-  of_row_label : {a : Tags} (f : Problem) (row : Row) → P a (flat_row_label f row) a
+  pub of_row_label : {a : Tags} (f : Problem) (row : Row) → P a (flat_row_label f row) a
   unfolding flat_row_label
   of_row_label f row = w.onward (says w (codes "b") refl 16 (row_top row + 17) (also (fixed (codes "ship ") refl) (also (of_number row.ship) nothing))) (says w (codes "m") refl 16 (row_top row + 33) (also (fixed (codes "most ") refl) (also (of_number (most_carried f row.ship)) nothing)))
 
-  of_value_mark : {a : Tags} (f : Problem) (row : Row) (course : Course) → P a (value_mark f row course) a
-  of_value_mark f row Unplanned = w.none
-  of_value_mark f row Stays = w.none
-  of_value_mark f row (Sails slot) = of_mark w (value_window f row) slot (value_level (most_carried f row.ship) (value_at f row.ship slot)) (letters (codes "ou mk") refl)
+  of_value_mark : {a : Tags} (m : Marking P) (f : Problem) (row : Row) (course : Course) → P a (value_mark f row course) a
+  of_value_mark m f row Unplanned = w.none
+  of_value_mark m f row Stays = w.none
+  of_value_mark m f row (Sails slot) = of_mark w m (value_window f row) slot (value_level (most_carried f row.ship) (value_at f row.ship slot)) (letters (codes "ou mk") refl)
 
-  of_values : {a : Tags} (f : Problem) (row : Row) → P a (values_text f row) a
+  of_values : {a : Tags} (m : Marking P) (f : Problem) (row : Row) → P a (values_text f row) a
   unfolding values_text
-  of_values f row = four w (of_sailings w (value_window f row)) (w.onward (figure w (codes "dr") refl (λ slot. value_level (most_carried f row.ship) (value_at f row.ship slot)) 0 (horizon f - 0) (tall_of (most_carried f row.ship))) (figure w (codes "fl") refl (λ slot. most_level (most_carried f row.ship) (value_at f row.ship slot)) 0 (horizon f - 0) (tall_of (most_carried f row.ship)))) (of_value_mark f row row.course) w.closed
+  of_values m f row = four w (of_sailings w m (value_window f row)) (w.onward (figure w (codes "dr") refl (λ slot. value_level (most_carried f row.ship) (value_at f row.ship slot)) 0 (horizon f - 0) (tall_of (most_carried f row.ship))) (figure w (codes "fl") refl (λ slot. most_level (most_carried f row.ship) (value_at f row.ship slot)) 0 (horizon f - 0) (tall_of (most_carried f row.ship)))) (of_value_mark m f row row.course) w.closed
 
   of_wait : {a : Tags} (table : List ℕ) (ship : ℕ) (rule : Rule) → P a (wait_bar table ship rule) a
   of_wait table ship (Pair v x holes) = w.none
@@ -99,29 +99,29 @@ module _ {P : Tags → List ℕ → Tags → Type 0} (w : Writing P) where
   unfolding flat_figures
   of_figures f row slot = w.onward (says w (codes "r b") refl 956 (row_top row + 17) (of_number slot)) (if_so w (nat_lt 0 (most_carried f row.ship)) (w.onward (says w (codes "r b") refl 1268 (row_top row + 17) (of_number (worth f row.ship slot))) (says w (codes "r m") refl 1268 (row_top row + 33) (also (fixed (codes "of ") refl) (also (of_number (most_carried f row.ship)) nothing)))))
 
-  of_course : {a : Tags} (f : Problem) (table : List ℕ) (row : Row) (course : Course) → P a (course_parts f table row course) a
+  pub of_course : {a : Tags} (f : Problem) (table : List ℕ) (row : Row) (course : Course) → P a (course_parts f table row course) a
   unfolding course_parts
   of_course f table row Unplanned = w.none
   of_course f table row Stays = of_stays w (row_top row)
   of_course f table row (Sails slot) = three w (of_pin w slot row.span (row_top row) (letters (codes "ou") refl)) (of_bars f table row slot) (of_figures f row slot)
 
   -- what follows the title of a row
-  pub of_planned_rest : {a : Tags} (f : Problem) (table : List ℕ) (row : Row) → P (group ∷ a) (stripe row.rank (row_top row) ++ (flat_row_label f row ++ (values_text f row ++ (moves_window (row_top row) row.span (flat_open_level f table row.ship) (horizon f) ++ (course_parts f table row row.course ++ group_end))))) a
-  of_planned_rest f table row = w.onward (of_stripe w row.rank (row_top row)) (w.onward (of_row_label f row) (w.onward (of_values f row) (w.onward (of_moves w (row_top row) row.span (flat_open_level f table row.ship) (horizon f)) (w.onward (of_course f table row row.course) w.finished))))
+  pub of_planned_rest : {a : Tags} (m : Marking P) (f : Problem) (table : List ℕ) (row : Row) → P (group ∷ a) (stripe row.rank (row_top row) ++ (flat_row_label f row ++ (values_text f row ++ (moves_window (row_top row) row.span (flat_open_level f table row.ship) (horizon f) ++ (course_parts f table row row.course ++ group_end))))) a
+  of_planned_rest m f table row = w.onward (of_stripe w row.rank (row_top row)) (w.onward (of_row_label f row) (w.onward (of_values m f row) (w.onward (of_moves w (row_top row) row.span (flat_open_level f table row.ship) (horizon f)) (w.onward (of_course f table row row.course) w.finished))))
 
-  pub of_unplanned_rest : {a : Tags} (f : Problem) (row : Row) → P (group ∷ a) (stripe row.rank (row_top row) ++ (flat_row_label f row ++ (values_text f row ++ (nowhere_text f row ++ group_end)))) a
-  of_unplanned_rest f row = w.onward (of_stripe w row.rank (row_top row)) (w.onward (of_row_label f row) (w.onward (of_values f row) (w.onward (if_so w (sails_nowhere f row.ship) (of_no_slot w (row_top row))) w.finished)))
+  pub of_unplanned_rest : {a : Tags} (m : Marking P) (f : Problem) (row : Row) → P (group ∷ a) (stripe row.rank (row_top row) ++ (flat_row_label f row ++ (values_text f row ++ (nowhere_text f row ++ group_end)))) a
+  of_unplanned_rest m f row = w.onward (of_stripe w row.rank (row_top row)) (w.onward (of_row_label f row) (w.onward (of_values m f row) (w.onward (if_so w (sails_nowhere f row.ship) (of_no_slot w (row_top row))) w.finished)))
 
-  of_unplanned_fleet : {a : Tags} (f : Problem) (span y : ℕ) (rule : Rule) → P a (unplanned_fleet f span y rule) a
-  of_unplanned_fleet {a = a} f span y rule = cond_both (has_steps rule) _ _ (λ (t : List ℕ). P a t a) (λ e. of_unplanned_hours w (flat_panel_of f span y rule) _ (rule_fleet rule)) (λ e. of_unplanned w (flat_panel_of f span y rule))
+  of_unplanned_fleet : {a : Tags} (m : Marking P) (f : Problem) (span place : ℕ) (rule : Rule) → P a (unplanned_fleet f span place rule) a
+  of_unplanned_fleet {a = a} m f span place rule = cond_both (has_steps rule) _ _ (λ (t : List ℕ). P a t a) (λ e. of_unplanned_hours w m (flat_panel_of f span place rule) _ (rule_fleet rule)) (λ e. of_unplanned w m (flat_panel_of f span place rule))
 
-  of_planned_fleet : {a : Tags} (f : Problem) (table : List ℕ) (span y : ℕ) (rule : Rule) → P a (planned_fleet f table span y rule) a
-  of_planned_fleet {a = a} f table span y rule = cond_both (has_steps rule) _ _ (λ (t : List ℕ). P a t a) (λ e. of_planned_hours w (flat_panel_of f span y rule) _ (rule_fleet rule) (busy rule table)) (λ e. of_planned w (flat_panel_of f span y rule) (busy rule table))
+  of_planned_fleet : {a : Tags} (m : Marking P) (f : Problem) (table : List ℕ) (span place : ℕ) (rule : Rule) → P a (planned_fleet f table span place rule) a
+  of_planned_fleet {a = a} m f table span place rule = cond_both (has_steps rule) _ _ (λ (t : List ℕ). P a t a) (λ e. of_planned_hours w m (flat_panel_of f span place rule) _ (rule_fleet rule) (busy rule table)) (λ e. of_planned w m (flat_panel_of f span place rule) (busy rule table))
 
-  pub of_unplanned_panels : {a : Tags} (f : Problem) (span y : ℕ) (rules : List Rule) → P a (unplanned_panels f span y rules) a
-  of_unplanned_panels f span y [] = w.none
-  of_unplanned_panels f span y (rule ∷ rules) = w.onward (of_unplanned_fleet f span y rule) (of_unplanned_panels f span (y + 66) rules)
+  pub of_unplanned_panels : {a : Tags} (m : Marking P) (f : Problem) (span place : ℕ) (rules : List Rule) → P a (unplanned_panels f span place rules) a
+  of_unplanned_panels m f span place [] = w.none
+  of_unplanned_panels m f span place (rule ∷ rules) = w.onward (of_unplanned_fleet m f span place rule) (of_unplanned_panels m f span (place + 1) rules)
 
-  pub of_planned_panels : {a : Tags} (f : Problem) (table : List ℕ) (span y : ℕ) (rules : List Rule) → P a (planned_panels f table span y rules) a
-  of_planned_panels f table span y [] = w.none
-  of_planned_panels f table span y (rule ∷ rules) = w.onward (of_planned_fleet f table span y rule) (of_planned_panels f table span (y + 66) rules)
+  pub of_planned_panels : {a : Tags} (m : Marking P) (f : Problem) (table : List ℕ) (span place : ℕ) (rules : List Rule) → P a (planned_panels f table span place rules) a
+  of_planned_panels m f table span place [] = w.none
+  of_planned_panels m f table span place (rule ∷ rules) = w.onward (of_planned_fleet m f table span place rule) (of_planned_panels m f table span (place + 1) rules)

@@ -5,7 +5,7 @@ use Rattle.std.proofs.lemmas.List.{append_cancel_left}
 use Rattle.std.proofs.lemmas.List.Elements.{All-get_or}
 use Rattle.hw_model.specs.Problem.{IsTimetable, Problem, horizon}
 use Rattle.hw_flat.specs.Carried.{worth}
-use Rattle.hw_chart_svg.specs.Sheets.{group_end, list_begin, picture_begin, title_end}
+use Rattle.hw_chart_svg.specs.Sheets.{group_end, list_begin, picture_begin, slots_begin, title_end}
 use Rattle.hw_chart.specs.declared.course.Course.{Course}
 use Rattle.hw_chart.specs.declared.course.Course.TheVariants.{Unplanned, Stays, Sails}
 use Rattle.hw_chart.specs.declared.outcome.CargoUnit.TheVariants.{Plain as PlainUnit}
@@ -15,15 +15,15 @@ use Rattle.hw_chart.specs.Headings.{ground, heading_lines, style}
 use Rattle.hw_chart.specs.Outcomes.{badge, title_text}
 use Rattle.hw_chart_flat.specs.Fleets.{fleets, picture_span}
 use Rattle.hw_chart_flat.specs.Legends.{flat_legend}
-use Rattle.hw_chart_flat.specs.Pictures.{body, flat_picture_bottom, flat_columns, flat_picture, flat_foot, flat_head, panels_y, planned_body, planned_panels, flat_picture_sizes}
+use Rattle.hw_chart_flat.specs.Pictures.{body, flat_picture_bottom, flat_columns, flat_picture, flat_foot, flat_head, planned_body, planned_panels, flat_picture_sizes}
 use Rattle.hw_chart_flat.specs.Rows.{course_text, planned_row, planned_row_text, planned_rows}
-use Rattle.hw_chart_laws.proofs.Calm.{Still, both, calm_writing, cut, spelled}
+use Rattle.hw_chart_laws.proofs.Calm.{Still, both, calm_marking, calm_writing, cut, spelled}
 use Rattle.hw_chart_laws.proofs.FlatParts.{of_columns, of_legend, of_planned_rest, spelled_sizes}
 use Rattle.hw_chart_laws.proofs.FlatTrees.{flat_title, planned_is, planned_rest, spelled_title}
 use Rattle.hw_chart_laws.proofs.Reading.{after_both, all_same, item_text, list_back, number_back, stepped}
 use Rattle.hw_chart_laws.proofs.Shared.{head_lines, of_badge, of_ground}
 use Rattle.hw_chart_laws.proofs.Titles.{plain_title}
-use Rattle.hw_chart_laws.proofs.Whole.{still_begin, still_style}
+use Rattle.hw_chart_laws.proofs.Whole.{still_begin, still_slots, still_style}
 
 -- a course is read back from its text
 course_back : (f : Problem) (ship : ℕ) (c d : Course) (x y : List ℕ) → SailsBefore (2 ^ 64) c → SailsBefore (2 ^ 64) d → course_text f ship c ++ (title_end ++ x) ≡ course_text f ship d ++ (title_end ++ y) → c ≡ d
@@ -58,11 +58,11 @@ rows_back f table other small ship zero x y e k low high = absurd (omega (arith,
 rows_back f table other small ship (suc more) x y e k low high =
     let a = planned_row f table ship in
     let b = planned_row f other ship in
-    let as_a : planned_row_text f table a ≡ item_text (flat_title f a) (planned_rest f table a) = planned_is f table a in
-    let as_b : planned_row_text f other b ≡ item_text (flat_title f b) (planned_rest f other b) = planned_is f other b in
-    let whole : cut ((item_text (flat_title f a) (planned_rest f table a) ++ planned_rows f table (ship + 1) more) ++ x) ≡ cut ((item_text (flat_title f b) (planned_rest f other b) ++ planned_rows f other (ship + 1) more) ++ y) =
+    let as_a : planned_row_text f table a ≡ item_text ship (flat_title f a) (planned_rest f table a) = planned_is f table a in
+    let as_b : planned_row_text f other b ≡ item_text ship (flat_title f b) (planned_rest f other b) = planned_is f other b in
+    let whole : cut ((item_text ship (flat_title f a) (planned_rest f table a) ++ planned_rows f table (ship + 1) more) ++ x) ≡ cut ((item_text ship (flat_title f b) (planned_rest f other b) ++ planned_rows f other (ship + 1) more) ++ y) =
     ap (λ (l : List ℕ). cut ((l ++ planned_rows f table (ship + 1) more) ++ x)) (sym as_a) ∙ e ∙ ap (λ (l : List ℕ). cut ((l ++ planned_rows f other (ship + 1) more) ++ y)) as_b in
-    let step = stepped (flat_title f a) (planned_rest f table a) (planned_rows f table (ship + 1) more) x (flat_title f b) (planned_rest f other b) (planned_rows f other (ship + 1) more) y (spelled (spelled_title f a)) (of_planned_rest calm_writing {a = []} f table a).still (spelled (spelled_title f b)) (of_planned_rest calm_writing {a = []} f other b).still whole in
+    let step = stepped ship (flat_title f a) (planned_rest f table a) (planned_rows f table (ship + 1) more) x (flat_title f b) (planned_rest f other b) (planned_rows f other (ship + 1) more) y (spelled (spelled_title f a)) (of_planned_rest calm_writing {a = []} calm_marking f table a).still (spelled (spelled_title f b)) (of_planned_rest calm_writing {a = []} calm_marking f other b).still whole in
     elim (cases_eq ship k) [
       | inl same ↦
           let titles = after_both (codes "ship " ++ decimal ship) (course_text f ship a.course) (course_text f ship b.course) _ _ step.here in
@@ -71,25 +71,25 @@ rows_back f table other small ship (suc more) x y e k low high =
     ]
 
 abbrev panels_of : Problem → List ℕ → List ℕ
-panels_of f table = planned_panels f table (picture_span f (Some table)) (panels_y f) (fleets f)
+panels_of f table = planned_panels f table (picture_span f (Some table)) 0 (fleets f)
 
 -- what stands before the list of rows, and what after it
 abbrev before_rows : Problem → List ℕ → Outcome → List ℕ
-before_rows f table outcome = picture_begin 1280 (flat_picture_bottom f + 28) (title_text PlainUnit outcome) ++ (style ++ (ground (flat_picture_bottom f + 28) ++ (badge outcome.verdict ++ (heading_lines PlainUnit outcome (flat_picture_sizes f) ++ (flat_legend f (Some table) [] ++ flat_columns)))))
+before_rows f table outcome = slots_begin (horizon f) ++ (picture_begin 1280 (flat_picture_bottom f + 28) (title_text PlainUnit outcome) ++ (style ++ (ground (flat_picture_bottom f + 28) ++ (badge outcome.verdict ++ (heading_lines PlainUnit outcome (flat_picture_sizes f) ++ (flat_legend f (Some table) [] ++ flat_columns))))))
 
 abbrev after_rows : Problem → List ℕ → List ℕ
 after_rows f table = group_end ++ (panels_of f table ++ flat_foot f (picture_span f (Some table)))
 
-parts : (pb st gr ba hl lg co lb rs ge pa ft : List ℕ) → ((pb ++ (st ++ (gr ++ (ba ++ (hl ++ []))))) ++ lg) ++ ((co ++ ((lb ++ (rs ++ (ge ++ []))) ++ (pa ++ []))) ++ (ft ++ [])) ≡ (pb ++ (st ++ (gr ++ (ba ++ (hl ++ (lg ++ co)))))) ++ (lb ++ (rs ++ (ge ++ (pa ++ ft))))
-parts pb st gr ba hl lg co lb rs ge pa ft = simp (append_assoc, append-nil)
+parts : (sl pb st gr ba hl lg co lb rs ge pa ft : List ℕ) → sl ++ (((pb ++ (st ++ (gr ++ (ba ++ (hl ++ []))))) ++ lg) ++ ((co ++ ((lb ++ (rs ++ (ge ++ []))) ++ (pa ++ []))) ++ (ft ++ []))) ≡ (sl ++ (pb ++ (st ++ (gr ++ (ba ++ (hl ++ (lg ++ co))))))) ++ (lb ++ (rs ++ (ge ++ (pa ++ ft))))
+parts sl pb st gr ba hl lg co lb rs ge pa ft = simp (append_assoc, append-nil)
 
 by_rows : (f : Problem) (table : List ℕ) (outcome : Outcome) → flat_picture f (Some table) outcome ≡ before_rows f table outcome ++ (list_begin ++ (planned_rows f table 0 f.ships ++ after_rows f table))
 unfolding flat_picture flat_head body planned_body
-by_rows f table outcome = parts (picture_begin 1280 (flat_picture_bottom f + 28) (title_text PlainUnit outcome)) style (ground (flat_picture_bottom f + 28)) (badge outcome.verdict) (heading_lines PlainUnit outcome (flat_picture_sizes f)) (flat_legend f (Some table) []) flat_columns list_begin (planned_rows f table 0 f.ships) group_end (panels_of f table) (flat_foot f (picture_span f (Some table)))
+by_rows f table outcome = parts (slots_begin (horizon f)) (picture_begin 1280 (flat_picture_bottom f + 28) (title_text PlainUnit outcome)) style (ground (flat_picture_bottom f + 28)) (badge outcome.verdict) (heading_lines PlainUnit outcome (flat_picture_sizes f)) (flat_legend f (Some table) []) flat_columns list_begin (planned_rows f table 0 f.ships) group_end (panels_of f table) (flat_foot f (picture_span f (Some table)))
 
 still_before : (f : Problem) (table : List ℕ) (outcome : Outcome) → Still (before_rows f table outcome)
 still_before f table outcome =
-    both (still_begin 1280 (flat_picture_bottom f + 28) (plain_title PlainUnit outcome)) (both still_style (both (of_ground calm_writing {a = []} (flat_picture_bottom f + 28)).still (both (of_badge calm_writing {a = []} outcome.verdict).still (both (head_lines calm_writing {a = []} PlainUnit outcome (spelled_sizes f)).still (both (of_legend calm_writing {a = []} f (Some table)).still (of_columns calm_writing {a = []}).still)))))
+    both (still_slots (horizon f)) (both (still_begin 1280 (flat_picture_bottom f + 28) (plain_title PlainUnit outcome)) (both still_style (both (of_ground calm_writing {a = []} (flat_picture_bottom f + 28)).still (both (of_badge calm_writing {a = []} outcome.verdict).still (both (head_lines calm_writing {a = []} PlainUnit outcome (spelled_sizes f)).still (both (of_legend calm_writing {a = []} f (Some table)).still (of_columns calm_writing {a = []}).still))))))
 
 -- two slots of which a ship's course is the same
 pub slots_same : (slots x y : ℕ) → x ≤ slots → y ≤ slots → course_of (Some x) slots ≡ course_of (Some y) slots → x ≡ y

@@ -6,7 +6,7 @@ use Rattle.hw_model.specs.Problem.{IsTimetable, Problem, horizon, value_at}
 use Rattle.hw_chart_svg.specs.Figures.{steps, steps_path}
 use Rattle.hw_chart_svg.specs.Lettering.{line, text_begin}
 use Rattle.hw_chart_svg.specs.Shapes.{area_path, block, shape_begin}
-use Rattle.hw_chart_svg.specs.Sheets.{group_end, item_begin, svg_end, title_end, window_begin}
+use Rattle.hw_chart_svg.specs.Sheets.{group_end, panel_begin, ship_item_begin, svg_end, title_end}
 use Rattle.hw_chart_svg.specs.declared.area.Area.{Area}
 use Rattle.hw_chart_svg.specs.declared.sheet.Window.{Window}
 use Rattle.hw_chart.specs.declared.course.Course.{Course}
@@ -21,7 +21,7 @@ use Rattle.hw_chart_flat.specs.Values.{most_carried, most_level, tall_of, value_
 use Rattle.hw_chart_laws.specs.Alike.{flat_row}
 use Rattle.hw_chart_laws.specs.Trees.{is_plain_byte}
 use Rattle.hw_chart_laws.proofs.FlatTrees.{flat_title, planned_is, spelled_title, unplanned_is}
-use Rattle.hw_chart_laws.proofs.Marked.{AsMany, Begins, begins_either, both, fixed, line_first, of_block, of_line, of_shape, of_window, past_stripe, shape_first, spelled, told, window_first}
+use Rattle.hw_chart_laws.proofs.Marked.{AsMany, Begins, begins_either, both, fixed, line_first, of_block, of_item, of_line, of_panel, of_shape, owned_first, panel_first, past_stripe, shape_first, spelled, told}
 use Rattle.hw_chart_laws.proofs.Plain.{letters, path}
 use Rattle.hw_chart_laws.proofs.Spelled.{Spelled, also, fixed as words, nothing, of_number}
 
@@ -59,7 +59,7 @@ abbrev window_in : Problem → Row → Window
 window_in f row = plot (row_top row + 3) 21 row.span (tall_in f row)
 
 abbrev window_on : Problem → Row → List ℕ → List ℕ
-window_on f row more = window_begin (window_in f row) ++ ground_on f row more
+window_on f row more = panel_begin (codes "row") row.ship (window_in f row) ++ ground_on f row more
 
 -- the most that the ship may carry
 abbrev pub most_text : Problem → Row → List ℕ
@@ -84,14 +84,14 @@ abbrev pub stripe_on : Problem → Row → List ℕ → List ℕ
 stripe_on f row more = stripe row.rank (row_top row) ++ ship_on f row more
 
 abbrev pub title_in : Problem → Row → List ℕ
-title_in f row = item_begin ++ (flat_title f row ++ title_end)
+title_in f row = ship_item_begin row.ship ++ (flat_title f row ++ title_end)
 
 spread : (st sh mo wi bl dr fl mk se more : List ℕ) → st ++ ((sh ++ mo) ++ (((wi ++ bl) ++ ((dr ++ fl) ++ (mk ++ (se ++ [])))) ++ more)) ≡ st ++ (sh ++ (mo ++ (wi ++ (bl ++ (dr ++ (fl ++ (mk ++ (se ++ more))))))))
 spread st sh mo wi bl dr fl mk se more = simp (append_assoc, append-nil)
 
 rest_is : (f : Problem) (row : Row) (more : List ℕ) → stripe row.rank (row_top row) ++ (flat_row_label f row ++ (values_text f row ++ more)) ≡ stripe_on f row more
 unfolding flat_row_label values_text
-rest_is f row more = spread (stripe row.rank (row_top row)) (ship_line row) (most_line f row) (window_begin (window_in f row)) (block (codes "wi") (ground_area f row)) (steps_in (codes "dr") f row (levels f row)) (steps_in (codes "fl") f row (tops f row)) (value_mark f row row.course) svg_end more
+rest_is f row more = spread (stripe row.rank (row_top row)) (ship_line row) (most_line f row) (panel_begin (codes "row") row.ship (window_in f row)) (block (codes "wi") (ground_area f row)) (steps_in (codes "dr") f row (levels f row)) (steps_in (codes "fl") f row (tops f row)) (value_mark f row row.course) svg_end more
 
 -- a row that is written so
 pub record Written (f : Problem) (ship : ℕ) (text : List ℕ) : Type 0 where
@@ -115,7 +115,7 @@ written f (Some table) ship limits listed lt =
 -- ---- what is written in each part, and where a mark begins
 
 titles_as : (f g : Problem) (a b : Row) → AsMany (title_in f a) (title_in g b)
-titles_as f g a b = both (fixed item_begin) (both (spelled (spelled_title f a) (spelled_title g b)) (fixed title_end))
+titles_as f g a b = both (of_item a.ship b.ship) (both (spelled (spelled_title f a) (spelled_title g b)) (fixed title_end))
 
 spelled_ship : (row : Row) → Spelled (ship_text row)
 spelled_ship row = also (words (codes "ship ") refl) (also (of_number row.ship) nothing)
@@ -138,7 +138,7 @@ stripe_first f row more = begins_either (nat_eq (row.rank % 2) 0) (block (codes 
 marks_first : (f : Problem) (row : Row) (c : Course) (more : List ℕ) → Begins (value_mark f row c ++ (svg_end ++ more))
 marks_first f row Unplanned more = record { first = refl }
 marks_first f row Stays more = record { first = refl }
-marks_first f row (Sails slot) more = shape_first (codes "ou mk") (area_path (record { left = slot; right = slot + 1; top = levels f row slot; bottom = tall_in f row })) (svg_end ++ more)
+marks_first f row (Sails slot) more = owned_first (codes "ou mk") (record { ship = row.ship; slot = slot }) (record { left = slot; right = slot + 1; top = levels f row slot; bottom = tall_in f row }) (svg_end ++ more)
 
 -- the stripe of a row isn't a line of text
 not_line : (a : Area) (class : List ℕ) (x y : ℕ) (text t u : List ℕ) → block (codes "bd") a ++ t ≡ line class x y text ++ u → ⊥
@@ -158,8 +158,8 @@ shared f g a b m n e =
     let titles = told (stripe_on f a m) (stripe_on g b n) (titles_as f g a b) (stripe_first f a m) (stripe_first g b n) e in
     let ships = past_stripe (nat_eq (a.rank % 2) 0) (nat_eq (b.rank % 2) 0) (ship_on f a m) (ship_on g b n) (of_block (codes "bd") (stripe_area a) (stripe_area b) refl) (ship_first f a m) (ship_first g b n) (λ same. not_line (stripe_area a) (codes "b") 16 (row_top b + 17) (ship_text b) (ship_on f a m) (most_on g b n) same) (λ same. not_line (stripe_area b) (codes "b") 16 (row_top a + 17) (ship_text a) (ship_on g b n) (most_on f a m) (sym same)) titles.rest in
     let numbers = told (most_on f a m) (most_on g b n) (of_line (codes "b") 16 (row_top a + 17) (row_top b + 17) (spelled_ship a) (spelled_ship b)) (line_first (codes "m") 16 (row_top a + 33) (most_text f a) (window_on f a m)) (line_first (codes "m") 16 (row_top b + 33) (most_text g b) (window_on g b n)) ships in
-    let mosts = told (window_on f a m) (window_on g b n) (of_line (codes "m") 16 (row_top a + 33) (row_top b + 33) (spelled_most f a) (spelled_most g b)) (window_first (window_in f a) (ground_on f a m)) (window_first (window_in g b) (ground_on g b n)) numbers.rest in
-    let windows = told (ground_on f a m) (ground_on g b n) (of_window (window_in f a) (window_in g b)) (shape_first (codes "wi") (area_path (ground_area f a)) (levels_on f a m)) (shape_first (codes "wi") (area_path (ground_area g b)) (levels_on g b n)) mosts.rest in
+    let mosts = told (window_on f a m) (window_on g b n) (of_line (codes "m") 16 (row_top a + 33) (row_top b + 33) (spelled_most f a) (spelled_most g b)) (panel_first (codes "row") a.ship (window_in f a) (ground_on f a m)) (panel_first (codes "row") b.ship (window_in g b) (ground_on g b n)) numbers.rest in
+    let windows = told (ground_on f a m) (ground_on g b n) (of_panel (codes "row") a.ship b.ship (window_in f a) (window_in g b)) (shape_first (codes "wi") (area_path (ground_area f a)) (levels_on f a m)) (shape_first (codes "wi") (area_path (ground_area g b)) (levels_on g b n)) mosts.rest in
     let grounds = told (levels_on f a m) (levels_on g b n) (of_block (codes "wi") (ground_area f a) (ground_area g b) refl) (shape_first (codes "dr") (steps_path (levels f a) 0 (horizon f - 0) (tall_in f a)) (tops_on f a m)) (shape_first (codes "dr") (steps_path (levels g b) 0 (horizon g - 0) (tall_in g b)) (tops_on g b n)) windows.rest in
     let drawn = told (tops_on f a m) (tops_on g b n) (figures_as (codes "dr") f g a b (levels f a) (levels g b) refl) (shape_first (codes "fl") (steps_path (tops f a) 0 (horizon f - 0) (tall_in f a)) (marks_on f a m)) (shape_first (codes "fl") (steps_path (tops g b) 0 (horizon g - 0) (tall_in g b)) (marks_on g b n)) grounds.rest in
     let last = told (marks_on f a m) (marks_on g b n) (figures_as (codes "fl") f g a b (tops f a) (tops g b) refl) (marks_first f a a.course m) (marks_first g b b.course n) drawn.rest in

@@ -35,3 +35,7 @@ pub mod OneWay
 pub mod Hatched
 pub mod Waited
 pub mod Without
+pub mod Values
+pub mod Named
+pub mod PortNames
+pub mod FlatNames

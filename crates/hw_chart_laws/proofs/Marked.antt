@@ -5,11 +5,12 @@ use Rattle.std.proofs.lemmas.Bool.{and_parts, cond_both}
 use Rattle.hw_chart_svg.specs.Lettering.{line, name_line, text_begin}
 use Rattle.hw_chart_svg.specs.Marks.{is_word}
 use Rattle.hw_chart_svg.specs.Names.{escaped}
-use Rattle.hw_chart_svg.specs.Shapes.{block, shape, shape_begin}
+use Rattle.hw_chart_svg.specs.Shapes.{block, owned_begin, owned_block, shape, shape_begin}
 use Rattle.hw_chart_svg.specs.Shortened.{shortened}
-use Rattle.hw_chart_svg.specs.Sheets.{window_begin}
+use Rattle.hw_chart_svg.specs.Sheets.{panel_begin, ship_item_begin, window_box}
 use Rattle.hw_chart_svg.specs.Widths.{width_of}
 use Rattle.hw_chart_svg.specs.declared.area.Area.{Area}
+use Rattle.hw_chart_svg.specs.declared.shape.Owner.{Owner}
 use Rattle.hw_chart_svg.specs.declared.sheet.Window.{Window}
 use Rattle.hw_chart_svg.proofs.Words.{name_is_word}
 use Rattle.hw_chart_laws.specs.Trees.{is_plain_byte}
@@ -158,13 +159,25 @@ told_either false false class x y z name other shown seen r s f g e = (told r s 
 pub told_name : (class : List ℕ) (x y z : ℕ) (name other : List ℕ) (place : ℕ) (r s : List ℕ) → Begins r → Begins s → name_line class x y name place ++ r ≡ name_line class x z other place ++ s → r ≡ s
 told_name class x y z name other place r s f g e = told_either (nat_lt place (width_of name)) (nat_lt place (width_of other)) class x y z name other (shortened name place) (shortened other place) r s f g e
 
-pub of_window : (w v : Window) → AsMany (window_begin w) (window_begin v)
-unfolding window_begin
-of_window w v = both (fixed (codes "<svg x=\"")) (both (plain (number w.x) (number v.x)) (both (fixed (codes "\" y=\"")) (both (plain (number w.y) (number v.y)) (both (fixed (codes "\" width=\"")) (both (plain (number w.width) (number v.width)) (both (fixed (codes "\" height=\"")) (both (plain (number w.height) (number v.height)) (both (fixed (codes "\" viewBox=\"0 0 ")) (both (plain (number w.across) (number v.across)) (both (fixed (codes " ")) (both (plain (number w.down) (number v.down)) (both (fixed (codes "\" preserveAspectRatio=\"none\">\n")) (fixed [])))))))))))))
+of_box : (w v : Window) → AsMany (window_box w) (window_box v)
+unfolding window_box
+of_box w v = both (fixed (codes " x=\"")) (both (plain (number w.x) (number v.x)) (both (fixed (codes "\" y=\"")) (both (plain (number w.y) (number v.y)) (both (fixed (codes "\" width=\"")) (both (plain (number w.width) (number v.width)) (both (fixed (codes "\" height=\"")) (both (plain (number w.height) (number v.height)) (both (fixed (codes "\" viewBox=\"0 0 ")) (both (plain (number w.across) (number v.across)) (both (fixed (codes " ")) (both (plain (number w.down) (number v.down)) (both (fixed (codes "\" preserveAspectRatio=\"none\">\n")) (fixed [])))))))))))))
 
-pub window_first : (w : Window) (t : List ℕ) → Begins (window_begin w ++ t)
-unfolding window_begin
-window_first w t = record { first = refl }
+pub of_panel : (kind : List ℕ) (place other : ℕ) (w v : Window) → AsMany (panel_begin kind place w) (panel_begin kind other v)
+unfolding panel_begin
+of_panel kind place other w v = both (fixed (codes "<svg data-panel=\"")) (both (fixed kind) (both (fixed (codes "\" data-place=\"")) (both (plain (number place) (number other)) (both (fixed (codes "\"")) (both (of_box w v) (fixed []))))))
+
+pub panel_first : (kind : List ℕ) (place : ℕ) (w : Window) (t : List ℕ) → Begins (panel_begin kind place w ++ t)
+unfolding panel_begin
+panel_first kind place w t = record { first = refl }
+
+pub of_item : (ship other : ℕ) → AsMany (ship_item_begin ship) (ship_item_begin other)
+unfolding ship_item_begin
+of_item ship other = both (fixed (codes "<g data-ship=\"")) (both (plain (number ship) (number other)) (both (fixed (codes "\" role=\"listitem\"><title>")) (fixed [])))
+
+pub owned_first : (class : List ℕ) (o : Owner) (a : Area) (t : List ℕ) → Begins (owned_block class o a ++ t)
+unfolding owned_begin
+owned_first class o a t = record { first = refl }
 
 -- where a part may be left out
 pub begins_either : (b : Bool) (x t : List ℕ) → Begins (x ++ t) → Begins t → Begins ((if b then x else []) ++ t)

@@ -36,7 +36,7 @@ use Rattle.hw_chart_laws.proofs.PortTexts.{plain_mark, plain_stay, spelled_passi
 use Rattle.hw_chart_laws.proofs.PortWaters.{of_waters}
 use Rattle.hw_chart_laws.proofs.Shared.{either as either_plain, figure, filled, five, if_so, of_planned, of_unplanned, says, three}
 use Rattle.hw_chart_laws.proofs.Spelled.{Spelled, also, fixed, nothing, of_height, of_metres}
-use Rattle.hw_chart_laws.proofs.Writing.{Tags, Writing, svg}
+use Rattle.hw_chart_laws.proofs.Writing.{Marking, Tags, Writing, svg}
 
 plain_of_window : (mark : WindowMark) → Plain (window_class mark)
 plain_of_window MaySail = letters _ refl
@@ -98,39 +98,39 @@ module _ {P : Tags → List ℕ → Tags → Type 0} (w : Writing P) where
   pub of_heads : {a : Tags} (table : Option (List ℕ)) (rows : ℕ) → P a (columns_where table rows) a
   of_heads table rows = if_so w (is_some table) (of_columns (rows - 8))
 
-  of_passes : {a : Tags} (chart : ChartParts) (strip : Strip) (ship : Underway) (s : ShipParts) (passes : List Pass) → P a (pass_marks chart strip ship s passes) a
-  of_passes chart strip ship s [] = w.none
-  of_passes chart strip ship s (pass ∷ more) = w.onward (if_so w (nat_eq (whole pass.waypoint) strip.place) (w.named (passing_area strip (passing chart strip ship pass)) (plain_mark s) (spelled_passing s.name (waypoint_name chart.port strip.place) (passing chart strip ship pass)))) (of_passes chart strip ship s more)
+  of_passes : {a : Tags} (m : Marking P) (chart : ChartParts) (strip : Strip) (ship : Underway) (s : ShipParts) (passes : List Pass) → P a (pass_marks chart strip ship s passes) a
+  of_passes m chart strip ship s [] = w.none
+  of_passes m chart strip ship s (pass ∷ more) = w.onward (if_so w (nat_eq (whole pass.waypoint) strip.place) (m.owned_named (record { ship = ship.number; slot = (passing chart strip ship pass).slot }) (passing_area strip (passing chart strip ship pass)) (plain_mark s) (spelled_passing s.name (waypoint_name chart.port strip.place) (passing chart strip ship pass)))) (of_passes m chart strip ship s more)
 
-  of_course : {a : Tags} (chart : ChartParts) (strip : Strip) (v : ℕ) (s : ShipParts) (course : Course) → P a (course_marks chart strip v s course) a
-  of_course chart strip v s Unplanned = w.none
-  of_course chart strip v s Stays = w.none
-  of_course chart strip v s (Sails slot) = of_passes chart strip (underway chart v slot) s s.route
+  of_course : {a : Tags} (m : Marking P) (chart : ChartParts) (strip : Strip) (v : ℕ) (s : ShipParts) (course : Course) → P a (course_marks chart strip v s course) a
+  of_course m chart strip v s Unplanned = w.none
+  of_course m chart strip v s Stays = w.none
+  of_course m chart strip v s (Sails slot) = of_passes m chart strip (underway chart v slot) s s.route
 
-  of_marks : {a : Tags} (chart : ChartParts) (strip : Strip) (v : ℕ) (ships : List ShipParts) → P a (marks_from chart strip v ships) a
-  of_marks chart strip v [] = w.none
-  of_marks chart strip v (s ∷ more) = w.onward (of_course chart strip v s (course chart v)) (of_marks chart strip (v + 1) more)
+  of_marks : {a : Tags} (m : Marking P) (chart : ChartParts) (strip : Strip) (v : ℕ) (ships : List ShipParts) → P a (marks_from chart strip v ships) a
+  of_marks m chart strip v [] = w.none
+  of_marks m chart strip v (s ∷ more) = w.onward (of_course m chart strip v s (course chart v)) (of_marks m chart strip (v + 1) more)
 
-  of_strip_label : {a : Tags} (strip : Strip) (name : List ℕ) → P a (strip_label strip name) a
+  pub of_strip_label : {a : Tags} (strip : Strip) (name : List ℕ) → P a (strip_label strip name) a
   of_strip_label strip name = w.onward (w.called 16 (strip_y strip + 16) name 148 (letters (codes "b") refl)) (says w (codes "m") refl 16 (strip_y strip + 32) (also (fixed (codes "charted ") refl) (also (of_metres strip.depth) (also (fixed (codes " m") refl) nothing))))
 
-  of_strip_heights : {a : Tags} (chart : ChartParts) (strip : Strip) → P a (strip_heights chart strip) a
+  pub of_strip_heights : {a : Tags} (chart : ChartParts) (strip : Strip) → P a (strip_heights chart strip) a
   of_strip_heights chart strip = says w (codes "m") refl 900 (strip_y strip + 16) (also (fixed (codes "tide ") refl) (also (of_height (least_height (height_in chart.tide strip.place) (shown chart))) (also (fixed (codes " to ") refl) (also (of_height (greatest_of (height_in chart.tide strip.place) (shown chart))) (also (fixed (codes " m") refl) nothing)))))
 
-  of_strip : {a : Tags} (chart : ChartParts) (strip : Strip) (name : List ℕ) → P a (strip_text chart strip name) a
-  of_strip chart strip name =
-      w.onward (of_strip_label strip name) (w.onward (w.opened (plot (strip_y strip) 40 chart.span (tall_between strip.low strip.high))) (five w (figure w (codes "wa") refl (water_level chart.tide strip.place strip.high) 0 (shown chart) (tall_between strip.low strip.high)) (of_marks chart strip 0 chart.port.ships) w.closed (of_strip_heights chart strip) (of_waters w chart strip)))
+  of_strip : {a : Tags} (m : Marking P) (chart : ChartParts) (strip : Strip) (name : List ℕ) → P a (strip_text chart strip name) a
+  of_strip m chart strip name =
+      w.onward (of_strip_label strip name) (w.onward (m.paneled strip.place (plot (strip_y strip) 40 chart.span (tall_between strip.low strip.high)) (letters (codes "tide") refl)) (five w (figure w (codes "wa") refl (water_level chart.tide strip.place strip.high) 0 (shown chart) (tall_between strip.low strip.high)) (of_marks m chart strip 0 chart.port.ships) w.closed (of_strip_heights chart strip) (of_waters w chart strip)))
 
-  of_place : {a : Tags} (chart : ChartParts) (heights : Heights) (place : ℕ) (waypoint : Waypoint) → P a (strip_at_place chart heights place waypoint) a
+  of_place : {a : Tags} (m : Marking P) (chart : ChartParts) (heights : Heights) (place : ℕ) (waypoint : Waypoint) → P a (strip_at_place chart heights place waypoint) a
   unfolding strip_at_place
-  of_place chart heights place waypoint = of_strip chart (strip_of heights place waypoint) waypoint.name
+  of_place m chart heights place waypoint = of_strip m chart (strip_of heights place waypoint) waypoint.name
 
-  of_strips_from : {a : Tags} (chart : ChartParts) (heights : Heights) (place : ℕ) (waypoints : List Waypoint) → P a (strips_from chart heights place waypoints) a
-  of_strips_from chart heights place [] = w.none
-  of_strips_from chart heights place (waypoint ∷ more) = w.onward (of_place chart heights place waypoint) (of_strips_from chart heights (place + 1) more)
+  of_strips_from : {a : Tags} (m : Marking P) (chart : ChartParts) (heights : Heights) (place : ℕ) (waypoints : List Waypoint) → P a (strips_from chart heights place waypoints) a
+  of_strips_from m chart heights place [] = w.none
+  of_strips_from m chart heights place (waypoint ∷ more) = w.onward (of_place m chart heights place waypoint) (of_strips_from m chart heights (place + 1) more)
 
-  pub of_strips : {a : Tags} (chart : ChartParts) → P a (strips chart) a
-  of_strips chart = of_strips_from chart (heights_of chart.tide) 0 chart.port.waypoints
+  pub of_strips : {a : Tags} (m : Marking P) (chart : ChartParts) → P a (strips chart) a
+  of_strips m chart = of_strips_from m chart (heights_of chart.tide) 0 chart.port.waypoints
 
   of_stretches : {a : Tags} (chart : ChartParts) (place : ℕ) (section : List ℕ) (s : ShipParts) (slot : ℕ) (channel : List Stretch) → P a (stretch_marks chart place section s slot channel) a
   of_stretches chart place section s slot [] = w.none
@@ -141,21 +141,21 @@ module _ {P : Tags → List ℕ → Tags → Type 0} (w : Writing P) where
   of_course_stays chart place section s Stays = w.none
   of_course_stays chart place section s (Sails slot) = of_stretches chart place section s slot s.channel
 
-  of_stays_from : {a : Tags} (chart : ChartParts) (place : ℕ) (section : List ℕ) (v : ℕ) (ships : List ShipParts) → P a (stays_from chart place section v ships) a
+  pub of_stays_from : {a : Tags} (chart : ChartParts) (place : ℕ) (section : List ℕ) (v : ℕ) (ships : List ShipParts) → P a (stays_from chart place section v ships) a
   of_stays_from chart place section v [] = w.none
   of_stays_from chart place section v (s ∷ more) = w.onward (of_course_stays chart place section s (course chart v)) (of_stays_from chart place section (v + 1) more)
 
-  of_lane_begin : {a : Tags} (chart : ChartParts) (section : List ℕ) (y : ℕ) → P a (lane_begin chart section y) (svg ∷ a)
-  of_lane_begin chart section y = three w (w.called 16 (y + 13) section 148 (letters (codes "b") refl)) (w.opened (plot y 18 chart.span 2)) (filled w (codes "wi") refl (record { left = 0; right = chart.span; top = 0; bottom = 2 }))
+  of_lane_begin : {a : Tags} (m : Marking P) (chart : ChartParts) (place : ℕ) (section : List ℕ) (y : ℕ) → P a (lane_begin chart place section y) (svg ∷ a)
+  of_lane_begin m chart place section y = three w (w.called 16 (y + 13) section 148 (letters (codes "b") refl)) (m.paneled place (plot y 18 chart.span 2) (letters (codes "section") refl)) (filled w (codes "wi") refl (record { left = 0; right = chart.span; top = 0; bottom = 2 }))
 
-  of_lane : {a : Tags} (chart : ChartParts) (place : ℕ) (section : List ℕ) → P a (lane_text chart place section) a
+  of_lane : {a : Tags} (m : Marking P) (chart : ChartParts) (place : ℕ) (section : List ℕ) → P a (lane_text chart place section) a
   unfolding lane_text
-  of_lane chart place section = three w (of_lane_begin chart section (lane_y chart place)) (of_stays_from chart place section 0 chart.port.ships) (w.onward w.closed (says w (codes "m") refl 900 (lane_y chart place + 13) (fixed (codes "one way: out above, in below") refl)))
+  of_lane m chart place section = three w (of_lane_begin m chart place section (lane_y chart place)) (of_stays_from chart place section 0 chart.port.ships) (w.onward w.closed (says w (codes "m") refl 900 (lane_y chart place + 13) (fixed (codes "one way: out above, in below") refl)))
 
-  pub of_lanes : {a : Tags} (chart : ChartParts) (place : ℕ) (sections : List Section) → P a (lanes_from chart place sections) a
-  of_lanes chart place [] = w.none
-  of_lanes chart place (section ∷ more) = w.onward (of_lane chart place section.name) (of_lanes chart (place + 1) more)
+  pub of_lanes : {a : Tags} (m : Marking P) (chart : ChartParts) (place : ℕ) (sections : List Section) → P a (lanes_from chart place sections) a
+  of_lanes m chart place [] = w.none
+  of_lanes m chart place (section ∷ more) = w.onward (of_lane m chart place section.name) (of_lanes m chart (place + 1) more)
 
-  pub of_fleet : {a : Tags} (chart : ChartParts) (table : Option (List ℕ)) → P a (fleet_panel chart table) a
-  of_fleet chart None = of_unplanned w (panel_of chart)
-  of_fleet chart (Some table) = of_planned w (panel_of chart) (tugs_held_in chart.port table)
+  pub of_fleet : {a : Tags} (m : Marking P) (chart : ChartParts) (table : Option (List ℕ)) → P a (fleet_panel chart table) a
+  of_fleet m chart None = of_unplanned w m (panel_of chart)
+  of_fleet m chart (Some table) = of_planned w m (panel_of chart) (tugs_held_in chart.port table)

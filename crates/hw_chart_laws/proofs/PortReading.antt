@@ -16,7 +16,7 @@ use Rattle.hw_chart.specs.Headings.{ground, heading_lines, style}
 use Rattle.hw_chart.specs.Outcomes.{badge, title_text}
 use Rattle.hw_chart_port.specs.Charts.{ChartParts, course}
 use Rattle.hw_chart_port.specs.Fleets.{fleet_panel}
-use Rattle.hw_chart_port.specs.Heads.{columns_where, places, sizes}
+use Rattle.hw_chart_port.specs.Heads.{columns_where, places, port_slots, sizes}
 use Rattle.hw_chart_port.specs.Lanes.{lanes_from}
 use Rattle.hw_chart_port.specs.Pictures.{chart_of, foot, legend_of, picture_of_chart, port_picture}
 use Rattle.hw_chart_port.specs.Reasons.{hint_by}
@@ -24,7 +24,7 @@ use Rattle.hw_chart_port.specs.Rows.{rows_from}
 use Rattle.hw_chart.specs.Layout.{rank_in}
 use Rattle.hw_chart_port.specs.Strips.{strips}
 use Rattle.hw_chart_port.specs.Titles.{course_title, ship_title}
-use Rattle.hw_chart_laws.proofs.Calm.{Still, both, calm_writing, cut, spelled}
+use Rattle.hw_chart_laws.proofs.Calm.{Still, both, calm_marking, calm_writing, cut, spelled}
 use Rattle.hw_chart_laws.proofs.FlatReading.{slots_same}
 use Rattle.hw_chart_laws.proofs.PortCourses.{course_back, small_course}
 use Rattle.hw_chart_laws.proofs.PortPanels.{of_heads, of_legend_of, of_strips}
@@ -35,7 +35,7 @@ use Rattle.hw_chart_laws.proofs.PortTrees.{port_rest, port_title, ranked_is}
 use Rattle.hw_chart_laws.proofs.Reading.{after_both, all_same, item_text, list_back, stepped}
 use Rattle.hw_chart_laws.proofs.Shared.{head_lines, of_badge, of_ground}
 use Rattle.hw_chart_laws.proofs.Titles.{plain_title}
-use Rattle.hw_chart_laws.proofs.Whole.{still_begin, still_style}
+use Rattle.hw_chart_laws.proofs.Whole.{still_begin, still_port_slots, still_style}
 
 -- courses of a chart that are small numbers
 abbrev AreSmall : ChartParts → Type 0
@@ -46,9 +46,9 @@ rows_back one two f g v [] x y e k low high = absurd (omega (arith, low, high))
 rows_back one two f g v (s ∷ more) x y e k low high =
     let a = port_rest one v s (rank_in one.table v) in
     let b = port_rest two v s (rank_in two.table v) in
-    let whole : cut ((item_text (port_title one v s) a ++ rows_from one (v + 1) more) ++ x) ≡ cut ((item_text (port_title two v s) b ++ rows_from two (v + 1) more) ++ y) =
+    let whole : cut ((item_text v (port_title one v s) a ++ rows_from one (v + 1) more) ++ x) ≡ cut ((item_text v (port_title two v s) b ++ rows_from two (v + 1) more) ++ y) =
     ap (λ (l : List ℕ). cut ((l ++ rows_from one (v + 1) more) ++ x)) (sym (ranked_is one v s)) ∙ e ∙ ap (λ (l : List ℕ). cut ((l ++ rows_from two (v + 1) more) ++ y)) (ranked_is two v s) in
-    let step = stepped (port_title one v s) a (rows_from one (v + 1) more) x (port_title two v s) b (rows_from two (v + 1) more) y (spelled (spelled_row one v s (course one v))) (of_row_rest calm_writing {a = []} one v s (rank_in one.table v)).still (spelled (spelled_row two v s (course two v))) (of_row_rest calm_writing {a = []} two v s (rank_in two.table v)).still whole in
+    let step = stepped v (port_title one v s) a (rows_from one (v + 1) more) x (port_title two v s) b (rows_from two (v + 1) more) y (spelled (spelled_row one v s (course one v))) (of_row_rest calm_writing {a = []} calm_marking one v s (rank_in one.table v)).still (spelled (spelled_row two v s (course two v))) (of_row_rest calm_writing {a = []} calm_marking two v s (rank_in two.table v)).still whole in
     elim (cases_eq v k) [
       | inl same ↦
           let titles = after_both (ship_title s.name v) (course_title one v s (course one v)) (course_title two v s (course two v)) _ _ step.here in
@@ -61,21 +61,21 @@ height_of chart = (places chart.port).bottom + 28
 
 -- what stands before the list of ships, and what after it
 abbrev before_ships : ChartParts → Outcome → List ℕ
-before_ships chart outcome = picture_begin 1280 (height_of chart) (title_text Tonnes outcome) ++ (style ++ (ground (height_of chart) ++ (badge outcome.verdict ++ (heading_lines Tonnes outcome (sizes chart.port) ++ ((hint_by chart outcome.verdict ++ legend_of chart []) ++ (strips chart ++ columns_where chart.table ((places chart.port).rows)))))))
+before_ships chart outcome = port_slots chart.port ++ (picture_begin 1280 (height_of chart) (title_text Tonnes outcome) ++ (style ++ (ground (height_of chart) ++ (badge outcome.verdict ++ (heading_lines Tonnes outcome (sizes chart.port) ++ ((hint_by chart outcome.verdict ++ legend_of chart []) ++ (strips chart ++ columns_where chart.table ((places chart.port).rows))))))))
 
 abbrev after_ships : ChartParts → List ℕ
 after_ships chart = group_end ++ (lanes_from chart 0 chart.port.sections ++ (fleet_panel chart chart.table ++ foot chart))
 
-parts : (pb st gr ba hl lg sr co lb rs ge la fl ft : List ℕ) → ((pb ++ (st ++ (gr ++ (ba ++ (hl ++ []))))) ++ lg) ++ ((sr ++ (co ++ ((lb ++ (rs ++ (ge ++ []))) ++ (la ++ (fl ++ []))))) ++ (ft ++ [])) ≡ (pb ++ (st ++ (gr ++ (ba ++ (hl ++ (lg ++ (sr ++ co))))))) ++ (lb ++ (rs ++ (ge ++ (la ++ (fl ++ ft)))))
-parts pb st gr ba hl lg sr co lb rs ge la fl ft = simp (append_assoc, append-nil)
+parts : (sl pb st gr ba hl lg sr co lb rs ge la fl ft : List ℕ) → sl ++ (((pb ++ (st ++ (gr ++ (ba ++ (hl ++ []))))) ++ lg) ++ ((sr ++ (co ++ ((lb ++ (rs ++ (ge ++ []))) ++ (la ++ (fl ++ []))))) ++ (ft ++ []))) ≡ (sl ++ (pb ++ (st ++ (gr ++ (ba ++ (hl ++ (lg ++ (sr ++ co)))))))) ++ (lb ++ (rs ++ (ge ++ (la ++ (fl ++ ft)))))
+parts sl pb st gr ba hl lg sr co lb rs ge la fl ft = simp (append_assoc, append-nil)
 
 by_ships : (chart : ChartParts) (outcome : Outcome) → picture_of_chart chart outcome ≡ before_ships chart outcome ++ (list_begin ++ (rows_from chart 0 chart.port.ships ++ after_ships chart))
 unfolding picture_of_chart
-by_ships chart outcome = parts (picture_begin 1280 (height_of chart) (title_text Tonnes outcome)) style (ground (height_of chart)) (badge outcome.verdict) (heading_lines Tonnes outcome (sizes chart.port)) (hint_by chart outcome.verdict ++ legend_of chart []) (strips chart) (columns_where chart.table ((places chart.port).rows)) list_begin (rows_from chart 0 chart.port.ships) group_end (lanes_from chart 0 chart.port.sections) (fleet_panel chart chart.table) (foot chart)
+by_ships chart outcome = parts (port_slots chart.port) (picture_begin 1280 (height_of chart) (title_text Tonnes outcome)) style (ground (height_of chart)) (badge outcome.verdict) (heading_lines Tonnes outcome (sizes chart.port)) (hint_by chart outcome.verdict ++ legend_of chart []) (strips chart) (columns_where chart.table ((places chart.port).rows)) list_begin (rows_from chart 0 chart.port.ships) group_end (lanes_from chart 0 chart.port.sections) (fleet_panel chart chart.table) (foot chart)
 
 still_before : (chart : ChartParts) (outcome : Outcome) → Still (before_ships chart outcome)
 still_before chart outcome =
-    both (still_begin 1280 (height_of chart) (plain_title Tonnes outcome)) (both still_style (both (of_ground calm_writing {a = []} (height_of chart)).still (both (of_badge calm_writing {a = []} outcome.verdict).still (both (head_lines calm_writing {a = []} Tonnes outcome (spelled_sizes chart.port)).still (both (calm_writing.onward (of_hint calm_writing {a = []} chart outcome.verdict) (of_legend_of calm_writing {a = []} chart)).still (both (of_strips calm_writing {a = []} chart).still (of_heads calm_writing {a = []} chart.table ((places chart.port).rows)).still))))))
+    both (still_port_slots chart.port) (both (still_begin 1280 (height_of chart) (plain_title Tonnes outcome)) (both still_style (both (of_ground calm_writing {a = []} (height_of chart)).still (both (of_badge calm_writing {a = []} outcome.verdict).still (both (head_lines calm_writing {a = []} Tonnes outcome (spelled_sizes chart.port)).still (both (calm_writing.onward (of_hint calm_writing {a = []} chart outcome.verdict) (of_legend_of calm_writing {a = []} chart)).still (both (of_strips calm_writing {a = []} calm_marking chart).still (of_heads calm_writing {a = []} chart.table ((places chart.port).rows)).still)))))))
 
 slot_most : (p : Parts) (table : List ℕ) → IsPortTimetable p table → (k : ℕ) → k < length table → slice_index table k ≤ horizon_of p
 slot_most p table listed k lt =

@@ -26,31 +26,31 @@ use Rattle.hw_chart_laws.proofs.PortTexts.{plain_arrow, plain_mark, plain_tight,
 use Rattle.hw_chart_laws.proofs.PortWaters.{of_reasons}
 use Rattle.hw_chart_laws.proofs.Shared.{figure, five, if_so, of_bar, of_mark, of_moves, of_pin, of_sailings, of_stays, of_stripe, says, three}
 use Rattle.hw_chart_laws.proofs.Spelled.{also, fixed, nothing, of_clock, of_metres, of_number, of_tenths}
-use Rattle.hw_chart_laws.proofs.Writing.{Tags, Writing, group}
+use Rattle.hw_chart_laws.proofs.Writing.{Marking, Tags, Writing, group}
 use Rattle.hw_port_windows.specs.Statuses.{full_draft}
 
 module _ {P : Tags → List ℕ → Tags → Type 0} (w : Writing P) where
   of_number_line : {a : Tags} (v : ℕ) (s : ShipParts) (full y : ℕ) → P a (row_number v (if is_outgoing s then codes ", full " else codes ", draft ") full y) a
   of_number_line v s full y = says w (codes "m") refl 16 (y + 33) (also (fixed (codes "ship ") refl) (also (of_number v) (also (spelled_full s) (also (of_metres full) (also (fixed (codes " m") refl) nothing)))))
 
-  of_left : {a : Tags} (v : ℕ) (s : ShipParts) (y : ℕ) → P a (row_left v s y) a
+  pub of_left : {a : Tags} (v : ℕ) (s : ShipParts) (y : ℕ) → P a (row_left v s y) a
   of_left v s y = w.onward (w.shaped (plain_way s) (plain_arrow s y)) (w.onward (w.called 16 (y + 17) s.name 148 (letters (codes "b") refl)) (of_number_line v s (whole (full_draft s)) y))
 
-  of_where : {a : Tags} (chart : ChartParts) (v : ℕ) (s : ShipParts) (window : Sailings) (course : Course) → P a (sailing_where chart v s window course) a
-  of_where chart v s window Unplanned = w.none
-  of_where chart v s window Stays = w.none
-  of_where chart v s window (Sails slot) = of_mark w window slot (draft_level chart v (full_draft s) window.tall slot) (plain_mark s)
+  of_where : {a : Tags} (m : Marking P) (chart : ChartParts) (v : ℕ) (s : ShipParts) (window : Sailings) (course : Course) → P a (sailing_where chart v s window course) a
+  of_where m chart v s window Unplanned = w.none
+  of_where m chart v s window Stays = w.none
+  of_where m chart v s window (Sails slot) = of_mark w m window slot (draft_level chart v (full_draft s) window.tall slot) (plain_mark s)
 
-  of_drafts : {a : Tags} (chart : ChartParts) (v : ℕ) (s : ShipParts) (window : Sailings) (course : Course) → P a (drafts_text chart v s window course) a
-  of_drafts chart v s window course =
-      five w (of_sailings w window) (figure w (codes "dr") refl (draft_level chart v (full_draft s) window.tall) window.first (window.end - window.first) window.tall) (if_so w (is_outgoing s) (figure w (codes "fl") refl (fullness_level chart v (full_draft s) window.tall) window.first (window.end - window.first) window.tall)) (of_where chart v s window course) w.closed
+  of_drafts : {a : Tags} (m : Marking P) (chart : ChartParts) (v : ℕ) (s : ShipParts) (window : Sailings) (course : Course) → P a (drafts_text chart v s window course) a
+  of_drafts m chart v s window course =
+      five w (of_sailings w m window) (figure w (codes "dr") refl (draft_level chart v (full_draft s) window.tall) window.first (window.end - window.first) window.tall) (if_so w (is_outgoing s) (figure w (codes "fl") refl (fullness_level chart v (full_draft s) window.tall) window.first (window.end - window.first) window.tall)) (of_where m chart v s window course) w.closed
 
-  of_closings : {a : Tags} (chart : ChartParts) (v : ℕ) (window : Sailings) (slot count : ℕ) → P a (closings_from chart v window slot count) a
+  pub of_closings : {a : Tags} (chart : ChartParts) (v : ℕ) (window : Sailings) (slot count : ℕ) → P a (closings_from chart v window slot count) a
   of_closings chart v window slot zero = w.none
   of_closings chart v window slot (suc more) = w.onward (if_so w _ (w.named _ (letters (codes "ha") refl) (spelled_closing chart slot _))) (of_closings chart v window (slot + 1) more)
 
-  of_windows : {a : Tags} (chart : ChartParts) (v : ℕ) (s : ShipParts) (y : ℕ) → P a (row_windows chart v s y) a
-  of_windows chart v s y = three w (of_drafts chart v s (window_of chart s y) (course chart v)) (if_so w (is_some chart.table) (of_moves w y chart.span (open_level chart v) (horizon_of chart.port))) (of_closings chart v (window_of chart s y) (whole s.earliest) (whole s.latest + 1 - whole s.earliest))
+  of_windows : {a : Tags} (m : Marking P) (chart : ChartParts) (v : ℕ) (s : ShipParts) (y : ℕ) → P a (row_windows chart v s y) a
+  of_windows m chart v s y = three w (of_drafts m chart v s (window_of chart v s y) (course chart v)) (if_so w (is_some chart.table) (of_moves w y chart.span (open_level chart v) (horizon_of chart.port))) (of_closings chart v (window_of chart v s y) (whole s.earliest) (whole s.latest + 1 - whole s.earliest))
 
   of_clearings : {a : Tags} (chart : ChartParts) (v : ℕ) (berths : List BerthPair) → P a (clearings chart v berths) a
   of_clearings chart v [] = w.none
@@ -84,11 +84,11 @@ module _ {P : Tags → List ℕ → Tags → Type 0} (w : Writing P) where
   of_figures : {a : Tags} (chart : ChartParts) (s : ShipParts) (g : Sailing) (y : ℕ) → P a (figures chart s g y) a
   of_figures chart s g y = five w (of_time g y) (of_draft s g y) (of_allowed chart g y) (of_keel g y) (of_cargo s g y)
 
-  of_right : {a : Tags} (chart : ChartParts) (v : ℕ) (s : ShipParts) (y : ℕ) (course : Course) → P a (row_right chart v s y course) a
+  pub of_right : {a : Tags} (chart : ChartParts) (v : ℕ) (s : ShipParts) (y : ℕ) (course : Course) → P a (row_right chart v s y course) a
   of_right chart v s y Unplanned = of_reasons w chart v s y
   of_right chart v s y Stays = of_stays w y
   of_right chart v s y (Sails slot) = three w (of_pin w slot chart.span y (plain_way s)) (of_bars chart v s slot y) (of_figures chart s (sailing_of chart v slot) y)
 
   -- what follows the title of a row
-  pub of_row_rest : {a : Tags} (chart : ChartParts) (v : ℕ) (s : ShipParts) (rank : ℕ) → P (group ∷ a) (stripe rank (row_y chart rank) ++ (row_left v s (row_y chart rank) ++ (row_windows chart v s (row_y chart rank) ++ (row_right chart v s (row_y chart rank) (course chart v) ++ group_end)))) a
-  of_row_rest chart v s rank = w.onward (of_stripe w rank (row_y chart rank)) (w.onward (of_left v s (row_y chart rank)) (w.onward (of_windows chart v s (row_y chart rank)) (w.onward (of_right chart v s (row_y chart rank) (course chart v)) w.finished)))
+  pub of_row_rest : {a : Tags} (m : Marking P) (chart : ChartParts) (v : ℕ) (s : ShipParts) (rank : ℕ) → P (group ∷ a) (stripe rank (row_y chart rank) ++ (row_left v s (row_y chart rank) ++ (row_windows chart v s (row_y chart rank) ++ (row_right chart v s (row_y chart rank) (course chart v) ++ group_end)))) a
+  of_row_rest m chart v s rank = w.onward (of_stripe w rank (row_y chart rank)) (w.onward (of_left v s (row_y chart rank)) (w.onward (of_windows m chart v s (row_y chart rank)) (w.onward (of_right chart v s (row_y chart rank) (course chart v)) w.finished)))

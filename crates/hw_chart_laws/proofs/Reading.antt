@@ -2,7 +2,7 @@
 use Rattle.std.proofs.Common.{◌≡◌, ◌<◌, ◌^◌, ◌++◌, ◌∙◌, ℕ, suc, false, List, [], ◌∷◌, codes, decimal, get_or, length, refl, ap, sym, arith, append_assoc}
 use Rattle.std.proofs.lemmas.List.{append_cancel_left}
 use Rattle.std.proofs.lemmas.Fmt.{decimal_injective}
-use Rattle.hw_chart_svg.specs.Sheets.{item_begin, list_begin, title_end}
+use Rattle.hw_chart_svg.specs.Sheets.{list_begin, ship_item_begin, title_end}
 use Rattle.hw_chart_svg.proofs.Digits.{is_digit, digits_of}
 use Rattle.hw_chart_svg.proofs.ReadBack.{parted}
 use Rattle.hw_chart_laws.proofs.Calm.{Still, cut, cut_past}
@@ -20,15 +20,15 @@ number_back m n x r s none fits small e = (number_parted m n x r s none fits sma
 pub after_both : (p a b x y : List ℕ) → (p ++ a) ++ x ≡ (p ++ b) ++ y → a ++ x ≡ b ++ y
 after_both p a b x y e = append_cancel_left p (a ++ x) (b ++ y) (sym (append_assoc p a x) ∙ e ∙ append_assoc p b y)
 
--- the text of an item with a title, and what follows it
-abbrev pub item_text : List ℕ → List ℕ → List ℕ
-item_text title rest = (item_begin ++ (title ++ title_end)) ++ rest
+-- the text of a ship's item with a title, and what follows it
+abbrev pub item_text : ℕ → List ℕ → List ℕ → List ℕ
+item_text ship title rest = (ship_item_begin ship ++ (title ++ title_end)) ++ rest
 
-spread : (title rest items z : List ℕ) → (item_text title rest ++ items) ++ z ≡ item_begin ++ (title ++ (title_end ++ (rest ++ (items ++ z))))
-spread title rest items z =
-    append_assoc (item_text title rest) items z
-    ∙ append_assoc (item_begin ++ (title ++ title_end)) rest (items ++ z)
-    ∙ ap (λ (l : List ℕ). item_begin ++ l) (append_assoc title title_end (rest ++ (items ++ z)))
+pub spread : (ship : ℕ) (title rest items z : List ℕ) → (item_text ship title rest ++ items) ++ z ≡ ship_item_begin ship ++ (title ++ (title_end ++ (rest ++ (items ++ z))))
+spread ship title rest items z =
+    append_assoc (item_text ship title rest) items z
+    ∙ append_assoc (ship_item_begin ship ++ (title ++ title_end)) rest (items ++ z)
+    ∙ ap (λ (l : List ℕ). ship_item_begin ship ++ l) (append_assoc title title_end (rest ++ (items ++ z)))
 
 after_title : {title rest : List ℕ} (items z : List ℕ) → Still title → Still rest → cut (title ++ (title_end ++ (rest ++ (items ++ z)))) ≡ cut (items ++ z)
 after_title {title = title} {rest = rest} items z t r =
@@ -36,15 +36,16 @@ after_title {title = title} {rest = rest} items z t r =
     ∙ cut_past title_end (rest ++ (items ++ z)) refl
     ∙ cut_past rest (items ++ z) r.calm
 
--- two lists of items that are the same from the first one on have the same title there, and are the same after it
+-- two lists of items that are the same from the first one on, one of the same ship, have the same title there, and are the same after it
 pub record Stepped (title rest items z title' rest' items' z' : List ℕ) : Type 0 where
   pub here : title ++ (title_end ++ (rest ++ (items ++ z))) ≡ title' ++ (title_end ++ (rest' ++ (items' ++ z')))
   pub later : cut (items ++ z) ≡ cut (items' ++ z')
 
-pub stepped : (title rest items z title' rest' items' z' : List ℕ) → Still title → Still rest → Still title' → Still rest' → cut ((item_text title rest ++ items) ++ z) ≡ cut ((item_text title' rest' ++ items') ++ z') → Stepped title rest items z title' rest' items' z'
-stepped title rest items z title' rest' items' z' t r t' r' e =
-    let whole : cut (item_begin ++ (title ++ (title_end ++ (rest ++ (items ++ z))))) ≡ cut (item_begin ++ (title' ++ (title_end ++ (rest' ++ (items' ++ z'))))) = ap cut (sym (spread title rest items z)) ∙ e ∙ ap cut (spread title' rest' items' z') in
-    let same = append_cancel_left (codes "g role=\"listitem\"><title>") (title ++ (title_end ++ (rest ++ (items ++ z)))) (title' ++ (title_end ++ (rest' ++ (items' ++ z')))) whole in
+pub stepped : (ship : ℕ) (title rest items z title' rest' items' z' : List ℕ) → Still title → Still rest → Still title' → Still rest' → cut ((item_text ship title rest ++ items) ++ z) ≡ cut ((item_text ship title' rest' ++ items') ++ z') → Stepped title rest items z title' rest' items' z'
+unfolding ship_item_begin
+stepped ship title rest items z title' rest' items' z' t r t' r' e =
+    let whole : cut (ship_item_begin ship ++ (title ++ (title_end ++ (rest ++ (items ++ z))))) ≡ cut (ship_item_begin ship ++ (title' ++ (title_end ++ (rest' ++ (items' ++ z'))))) = ap cut (sym (spread ship title rest items z)) ∙ e ∙ ap cut (spread ship title' rest' items' z') in
+    let same = append_cancel_left (codes "g data-ship=\"" ++ (decimal ship ++ (codes "\" role=\"listitem\"><title>" ++ []))) (title ++ (title_end ++ (rest ++ (items ++ z)))) (title' ++ (title_end ++ (rest' ++ (items' ++ z')))) whole in
     record {
       here = same;
       later = sym (after_title items z t r) ∙ ap cut same ∙ after_title items' z' t' r';

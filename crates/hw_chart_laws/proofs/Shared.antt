@@ -19,13 +19,13 @@ use Rattle.hw_chart.specs.Headings.{ground, heading_lines}
 use Rattle.hw_chart.specs.Hours.{at_most_of_hours, hours_ground, hours_inside, hours_label, planned_hours, unplanned_hours}
 use Rattle.hw_chart.specs.Layout.{pin, stripe}
 use Rattle.hw_chart.specs.Outcomes.{badge}
-use Rattle.hw_chart.specs.Panels.{at_most, fleet_label, held_inside, panel_ground, planned_panel, unplanned_panel}
+use Rattle.hw_chart.specs.Panels.{at_most, fleet_label, held_inside, panel_ground, panel_window, planned_panel, unplanned_panel}
 use Rattle.hw_chart.specs.Rows.{bar, moves_window, no_slot, sailing_mark, sailings_begin, stays_label}
 use Rattle.hw_chart_laws.specs.Trees.{is_plain_byte}
 use Rattle.hw_chart_laws.proofs.Plain.{Plain, area, both, letters, nothing, number, path}
 use Rattle.hw_chart_laws.proofs.Titles.{plain_disc, plain_meaning, plain_sign, plain_title}
 use Rattle.hw_chart_laws.proofs.Spelled.{Spelled, also, fixed, of_clock, of_number, plain}
-use Rattle.hw_chart_laws.proofs.Writing.{Tags, Writing, svg}
+use Rattle.hw_chart_laws.proofs.Writing.{Marking, Tags, Writing, svg}
 
 -- ---- texts without marks
 
@@ -90,11 +90,11 @@ module _ {P : Tags → List ℕ → Tags → Type 0} (w : Writing P) where
   pub of_pin : {a : Tags} {class : List ℕ} (slot span y : ℕ) → Plain class → P a (pin class slot span y) a
   of_pin slot span y c = w.shaped c (both (letters (codes "M") refl) (both (number _) (both (letters (codes " ") refl) (both (number _) (both (letters (codes "h9l-4 6z") refl) nothing)))))
 
-  pub of_sailings : {a : Tags} (s : Sailings) → P a (sailings_begin s) (svg ∷ a)
-  of_sailings s = w.onward (w.opened _) (filled (codes "wi") refl _)
+  pub of_sailings : {a : Tags} (m : Marking P) (s : Sailings) → P a (sailings_begin s) (svg ∷ a)
+  of_sailings m s = w.onward (m.paneled s.ship _ (letters (codes "row") refl)) (filled (codes "wi") refl _)
 
-  pub of_mark : {a : Tags} {class : List ℕ} (s : Sailings) (slot level : ℕ) → Plain class → P a (sailing_mark class s slot level) a
-  of_mark s slot level c = w.shaped c (area _)
+  pub of_mark : {a : Tags} {class : List ℕ} (m : Marking P) (s : Sailings) (slot level : ℕ) → Plain class → P a (sailing_mark class s slot level) a
+  of_mark m s slot level c = m.owned _ _ c
 
   pub of_moves : {a : Tags} (y span : ℕ) (level : ℕ → ℕ) (slots : ℕ) → P a (moves_window y span level slots) a
   of_moves y span level slots = three (w.opened _) (figure (codes "pl") refl level 0 slots 1) w.closed
@@ -108,41 +108,44 @@ module _ {P : Tags → List ℕ → Tags → Type 0} (w : Writing P) where
   pub of_no_slot : {a : Tags} (y : ℕ) → P a (no_slot y) a
   of_no_slot y = says (codes "r q") refl 956 (y + 17) (fixed (codes "no slot") refl)
 
-  of_label : {a : Tags} (p : Panel) → P a (fleet_label p) a
+  pub of_label : {a : Tags} (p : Panel) → P a (fleet_label p) a
   of_label p = w.onward (says (codes "b") refl 16 (p.y + 16) (fixed (codes "Tugs") refl)) (says (codes "m") refl 16 (p.y + 32) (also (fixed (codes "fleet of ") refl) (also (of_number p.fleet) (plain nothing))))
 
-  of_panel_ground : {a : Tags} (p : Panel) → P a (panel_ground p) a
+  of_window : {a : Tags} (m : Marking P) (p : Panel) → P a (panel_window p) (svg ∷ a)
+  of_window m p = m.paneled p.place _ (letters (codes "tugs") refl)
+
+  pub of_panel_ground : {a : Tags} (p : Panel) → P a (panel_ground p) a
   of_panel_ground p = filled (codes "wi") refl _
 
-  of_inside : {a : Tags} (p : Panel) (held : ℕ → ℕ) → P a (held_inside p held) a
+  pub of_inside : {a : Tags} (p : Panel) (held : ℕ → ℕ) → P a (held_inside p held) a
   of_inside p held = three (of_panel_ground p) (figure (codes "tu") refl _ 0 p.slots _) (figure (codes "fu") refl _ 0 p.slots _)
 
-  of_most : {a : Tags} (p : Panel) (most : ℕ) → P a (at_most p most) a
+  pub of_most : {a : Tags} (p : Panel) (most : ℕ) → P a (at_most p most) a
   of_most p most = says (codes "m") refl 900 (p.y + 16) (also (fixed (codes "at most ") refl) (also (of_number most) (also (fixed (codes " of ") refl) (also (of_number p.fleet) (also (fixed (codes " held at once") refl) (plain nothing))))))
 
-  pub of_unplanned : {a : Tags} (p : Panel) → P a (unplanned_panel p) a
-  of_unplanned p = four (of_label p) (w.opened _) (of_panel_ground p) w.closed
+  pub of_unplanned : {a : Tags} (m : Marking P) (p : Panel) → P a (unplanned_panel p) a
+  of_unplanned m p = four (of_label p) (of_window m p) (of_panel_ground p) w.closed
 
-  pub of_planned : {a : Tags} (p : Panel) (held : ℕ → ℕ) → P a (planned_panel p held) a
-  of_planned p held = five (of_label p) (w.opened _) (of_inside p held) w.closed (of_most p _)
+  pub of_planned : {a : Tags} (m : Marking P) (p : Panel) (held : ℕ → ℕ) → P a (planned_panel p held) a
+  of_planned m p held = five (of_label p) (of_window m p) (of_inside p held) w.closed (of_most p _)
 
-  of_hours_label : {a : Tags} (p : Panel) (least : ℕ) → P a (hours_label p least) a
+  pub of_hours_label : {a : Tags} (p : Panel) (least : ℕ) → P a (hours_label p least) a
   of_hours_label p least = w.onward (says (codes "b") refl 16 (p.y + 16) (fixed (codes "Tugs") refl)) (says (codes "m") refl 16 (p.y + 32) (also (fixed (codes "fleet of ") refl) (also (of_number least) (also (fixed (codes " to ") refl) (also (of_number p.fleet) (plain nothing))))))
 
-  of_hours_ground : {a : Tags} (p : Panel) (fleet : ℕ → ℕ) → P a (hours_ground p fleet) a
+  pub of_hours_ground : {a : Tags} (p : Panel) (fleet : ℕ → ℕ) → P a (hours_ground p fleet) a
   of_hours_ground p fleet = figure (codes "wi") refl _ 0 p.slots _
 
-  of_hours_inside : {a : Tags} (p : Panel) (fleet held : ℕ → ℕ) → P a (hours_inside p fleet held) a
+  pub of_hours_inside : {a : Tags} (p : Panel) (fleet held : ℕ → ℕ) → P a (hours_inside p fleet held) a
   of_hours_inside p fleet held = three (of_hours_ground p fleet) (figure (codes "tu") refl _ 0 p.slots _) (figure (codes "fu") refl _ 0 p.slots _)
 
-  of_most_of_hours : {a : Tags} (p : Panel) (least most : ℕ) → P a (at_most_of_hours p least most) a
+  pub of_most_of_hours : {a : Tags} (p : Panel) (least most : ℕ) → P a (at_most_of_hours p least most) a
   of_most_of_hours p least most = says (codes "m") refl 900 (p.y + 16) (also (fixed (codes "at most ") refl) (also (of_number most) (also (fixed (codes " of ") refl) (also (of_number least) (also (fixed (codes " to ") refl) (also (of_number p.fleet) (also (fixed (codes " held at once") refl) (plain nothing))))))))
 
-  pub of_unplanned_hours : {a : Tags} (p : Panel) (least : ℕ) (fleet : ℕ → ℕ) → P a (unplanned_hours p least fleet) a
-  of_unplanned_hours p least fleet = four (of_hours_label p least) (w.opened _) (of_hours_ground p fleet) w.closed
+  pub of_unplanned_hours : {a : Tags} (m : Marking P) (p : Panel) (least : ℕ) (fleet : ℕ → ℕ) → P a (unplanned_hours p least fleet) a
+  of_unplanned_hours m p least fleet = four (of_hours_label p least) (of_window m p) (of_hours_ground p fleet) w.closed
 
-  pub of_planned_hours : {a : Tags} (p : Panel) (least : ℕ) (fleet held : ℕ → ℕ) → P a (planned_hours p least fleet held) a
-  of_planned_hours p least fleet held = five (of_hours_label p least) (w.opened _) (of_hours_inside p fleet held) w.closed (of_most_of_hours p least _)
+  pub of_planned_hours : {a : Tags} (m : Marking P) (p : Panel) (least : ℕ) (fleet held : ℕ → ℕ) → P a (planned_hours p least fleet held) a
+  of_planned_hours m p least fleet held = five (of_hours_label p least) (of_window m p) (of_hours_inside p fleet held) w.closed (of_most_of_hours p least _)
 
   of_mark_text : {a : Tags} (x : Axis) (at : ℕ) → P a (mark x at) a
   of_mark_text x at = w.onward (w.lettered _ 116 (plain_mark x.scale at) (spelled_mark x.scale at)) (w.lettered _ _ (plain_mark x.scale at) (spelled_mark x.scale at))

@@ -1,9 +1,10 @@
 -- What a picture is written with, and that a fact that holds of each of these holds of all that is made of them.
 use Rattle.std.proofs.Common.{◌++◌, ℕ, List, [], ◌∷◌, codes}
 use Rattle.hw_chart_svg.specs.Lettering.{line, name_line}
-use Rattle.hw_chart_svg.specs.Shapes.{shape, titled}
-use Rattle.hw_chart_svg.specs.Sheets.{group_end, svg_end, window_begin}
+use Rattle.hw_chart_svg.specs.Shapes.{owned_block, owned_titled, shape, titled}
+use Rattle.hw_chart_svg.specs.Sheets.{group_end, panel_begin, svg_end, window_begin}
 use Rattle.hw_chart_svg.specs.declared.area.Area.{Area}
+use Rattle.hw_chart_svg.specs.declared.shape.Owner.{Owner}
 use Rattle.hw_chart_svg.specs.declared.sheet.Window.{Window}
 use Rattle.hw_chart.specs.Hatches.{hatch}
 use Rattle.hw_chart_laws.proofs.Plain.{Plain}
@@ -30,3 +31,9 @@ pub record Writing (P : Tags → List ℕ → Tags → Type 0) : Type 0 where
   pub closed : {a : Tags} → P (svg ∷ a) svg_end a
   pub finished : {a : Tags} → P (group ∷ a) group_end a
   pub hatching : {a : Tags} → P a hatch a
+
+-- the same of what has a name: panels, and marks of slots
+pub record Marking (P : Tags → List ℕ → Tags → Type 0) : Type 0 where
+  pub paneled : {a : Tags} {kind : List ℕ} (place : ℕ) (w : Window) → Plain kind → P a (panel_begin kind place w) (svg ∷ a)
+  pub owned : {a : Tags} {class : List ℕ} (owner : Owner) (area : Area) → Plain class → P a (owned_block class owner area) a
+  pub owned_named : {a : Tags} {class title : List ℕ} (owner : Owner) (area : Area) → Plain class → Spelled title → P a (owned_titled class owner area title) a

@@ -3,6 +3,7 @@ use Rattle.std.specs.Prelude.{◌≡◌, ◌++◌, ◌&&◌, ◌||◌, ℕ, Bool
 use Rattle.std.specs.List.{list_all, concat}
 use Rattle.hw_chart_svg.specs.Marks.{is_word}
 use Rattle.hw_chart_svg.specs.Trees.{Attribute, Node, Nodes, words, element, no_more, node, attributes_text, nodes_text}
+use Rattle.hw_chart_laws.specs.Sheet.{begins_with}
 
 -- none of the marks < > " ' &
 abbrev pub is_plain_byte : ℕ → Bool
@@ -21,9 +22,18 @@ abbrev pub is_element_name : List ℕ → Bool
 is_element_name [] = false
 is_element_name (b ∷ bs) = is_letter b && list_all is_name_byte bs
 
--- an attribute has a name, and no mark stands in its value
+-- what follows a mark & stands for a mark that is spelled out
+abbrev pub spells_mark : List ℕ → Bool
+spells_mark text = begins_with (codes "amp;") text || begins_with (codes "lt;") text || begins_with (codes "gt;") text || begins_with (codes "quot;") text || begins_with (codes "#39;") text
+
+-- no mark stands in a text, unless it is spelled out
+abbrev pub is_value : List ℕ → Bool
+is_value [] = true
+is_value (b ∷ bs) = (is_plain_byte b || (nat_eq b 38 && spells_mark bs)) && is_value bs
+
+-- an attribute has a name and a value
 abbrev pub is_attribute : Attribute → Bool
-is_attribute a = is_element_name a.name && list_all is_plain_byte a.value
+is_attribute a = is_element_name a.name && is_value a.value
 
 -- an attribute has another name than this
 abbrev pub is_other : List ℕ → Attribute → Bool

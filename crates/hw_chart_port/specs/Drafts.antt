@@ -25,8 +25,8 @@ full_draft_level full tall None = tall
 full_draft_level full tall (Some draft) = if int_eq draft full then 0 else tall
 
 -- the window from the earliest slot of the ship to its latest
-abbrev pub window_of : ChartParts → ShipParts → ℕ → Sailings
-window_of chart s y = record { y = y; span = chart.span; tall = tall_between s.light (full_draft s); first = whole s.earliest; end = whole s.latest + 1 }
+abbrev pub window_of : ChartParts → ℕ → ShipParts → ℕ → Sailings
+window_of chart v s y = record { ship = v; y = y; span = chart.span; tall = tall_between s.light (full_draft s); first = whole s.earliest; end = whole s.latest + 1 }
 
 -- the level of each slot
 abbrev pub draft_level : ChartParts → ℕ → ℤ → ℕ → ℕ → ℕ

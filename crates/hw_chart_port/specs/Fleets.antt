@@ -13,7 +13,7 @@ abbrev pub tugs_held_in : Parts → List ℕ → ℕ → ℕ
 tugs_held_in p table slot = sum_by (tugs_held p slot) (zip p.ships table)
 
 abbrev pub panel_of : ChartParts → Panel
-panel_of chart = record { y = (places chart.port).tugs; fleet = whole chart.port.fleet; slots = horizon_of chart.port; span = chart.span }
+panel_of chart = record { place = 0; y = (places chart.port).tugs; fleet = whole chart.port.fleet; slots = horizon_of chart.port; span = chart.span }
 
 abbrev pub fleet_panel : ChartParts → Option (List ℕ) → List ℕ
 fleet_panel chart None = unplanned_panel (panel_of chart)

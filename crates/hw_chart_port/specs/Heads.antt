@@ -1,7 +1,8 @@
--- Where the parts of a picture stand, its sizes, and the heads of its columns.
-use Rattle.std.specs.Prelude.{ℕ, ◌+◌, ◌-◌, ◌*◌, List, [], ◌∷◌, codes, decimal, length, Option, is_some, if◌then◌else◌}
+-- Where the parts of a picture stand, what its slots are, its sizes, and the heads of its columns.
+use Rattle.std.specs.Prelude.{ℕ, ◌+◌, ◌-◌, ◌*◌, List, [], ◌∷◌, codes, decimal, length, Option, Some, None, is_some, if◌then◌else◌}
 use Rattle.std.specs.List.{concat}
 use Rattle.hw_chart_svg.specs.Lettering.{line}
+use Rattle.hw_chart_svg.specs.Sheets.{minutes_of_slots, slots_begin, start_of_slots}
 use Rattle.hw_port.specs.Whole.{Parts}
 use Rattle.hw_port_model.specs.Numbers.{whole}
 use Rattle.hw_chart_port.specs.declared.places.Places.{Places}
@@ -17,6 +18,14 @@ places_of waypoints ships sections = record {
 
 abbrev pub places : Parts → Places
 places p = places_of (length p.waypoints) (length p.ships) (length p.sections)
+
+abbrev pub start_where : Option (List ℕ) → List ℕ
+start_where None = []
+start_where (Some start) = start_of_slots start
+
+-- a picture begins with how many slots there are in which ships sail, how long each is, and when slot 0 begins, where that has a date
+abbrev pub port_slots : Parts → List ℕ
+port_slots p = concat (slots_begin (whole p.slots) ∷ minutes_of_slots (whole p.slot_minutes) ∷ start_where p.start ∷ [])
 
 unfoldable pub sizes_text : ℕ → ℕ → ℕ → ℕ → List ℕ
 sizes_text ships slots minutes fleet = concat (codes "ships " ∷ decimal ships ∷ codes ", slots " ∷ decimal slots ∷ codes " of " ∷ decimal minutes ∷ codes " min, tugs " ∷ decimal fleet ∷ [])

@@ -5,7 +5,7 @@ use Rattle.hw_chart_svg.specs.Lettering.{line, name_line}
 use Rattle.hw_chart_svg.specs.Names.{escaped}
 use Rattle.hw_chart_svg.specs.Numbers.{clock}
 use Rattle.hw_chart_svg.specs.Shapes.{block, titled}
-use Rattle.hw_chart_svg.specs.Sheets.{svg_end, window_begin}
+use Rattle.hw_chart_svg.specs.Sheets.{panel_begin, svg_end}
 use Rattle.hw_port.specs.declared.parts.Section.{Section}
 use Rattle.hw_port.specs.declared.parts.Stretch.{Stretch}
 use Rattle.hw_port.specs.Parts.{ShipParts}
@@ -57,14 +57,14 @@ stays_from chart place section v (s ∷ more) = course_stays chart place section
 abbrev pub lane_y : ChartParts → ℕ → ℕ
 lane_y chart place = (places chart.port).lanes + 28 * place
 
-abbrev pub lane_begin : ChartParts → List ℕ → ℕ → List ℕ
-lane_begin chart section y = concat (name_line (codes "b") 16 (y + 13) section 148 ∷ window_begin (plot y 18 chart.span 2) ∷ block (codes "wi") (record { left = 0; right = chart.span; top = 0; bottom = 2 }) ∷ [])
+abbrev pub lane_begin : ChartParts → ℕ → List ℕ → ℕ → List ℕ
+lane_begin chart place section y = concat (name_line (codes "b") 16 (y + 13) section 148 ∷ panel_begin (codes "section") place (plot y 18 chart.span 2) ∷ block (codes "wi") (record { left = 0; right = chart.span; top = 0; bottom = 2 }) ∷ [])
 
 abbrev pub lane_end : ℕ → List ℕ
 lane_end y = svg_end ++ line (codes "m") 900 (y + 13) (codes "one way: out above, in below")
 
 unfoldable pub lane_text : ChartParts → ℕ → List ℕ → List ℕ
-lane_text chart place section = concat (lane_begin chart section (lane_y chart place) ∷ stays_from chart place section 0 chart.port.ships ∷ lane_end (lane_y chart place) ∷ [])
+lane_text chart place section = concat (lane_begin chart place section (lane_y chart place) ∷ stays_from chart place section 0 chart.port.ships ∷ lane_end (lane_y chart place) ∷ [])
 
 -- the lanes of the sections from this place on
 abbrev pub lanes_from : ChartParts → ℕ → List Section → List ℕ

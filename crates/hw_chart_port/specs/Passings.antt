@@ -5,7 +5,7 @@ use Rattle.std.specs.List.{concat}
 use Rattle.hw_draft.specs.Passages.{passage_of, under_keel, water, waypoint_name}
 use Rattle.hw_chart_svg.specs.Names.{escaped}
 use Rattle.hw_chart_svg.specs.Numbers.{clock, metres}
-use Rattle.hw_chart_svg.specs.Shapes.{titled}
+use Rattle.hw_chart_svg.specs.Shapes.{owned_titled}
 use Rattle.hw_chart_svg.specs.declared.area.Area.{Area}
 use Rattle.hw_port.specs.declared.parts.Pass.{Pass}
 use Rattle.hw_port.specs.Parts.{ShipParts}
@@ -47,12 +47,12 @@ abbrev pub passing_area : Strip → Passing → Area
 passing_area strip p = record { left = p.slot; right = p.slot + 1; top = p.level; bottom = tall_between strip.low strip.high }
 
 -- the mark of a passing
-abbrev pub passing_mark : Strip → ShipParts → List ℕ → Passing → List ℕ
-passing_mark strip s waypoint p = titled (mark_class s) (passing_area strip p) (passing_title s.name waypoint p)
+abbrev pub passing_mark : Strip → ℕ → ShipParts → List ℕ → Passing → List ℕ
+passing_mark strip v s waypoint p = owned_titled (mark_class s) (record { ship = v; slot = p.slot }) (passing_area strip p) (passing_title s.name waypoint p)
 
 -- the mark of a pass at this waypoint
 abbrev pub mark_here : ChartParts → Strip → Underway → ShipParts → Pass → List ℕ
-mark_here chart strip ship s pass = passing_mark strip s (waypoint_name chart.port strip.place) (passing chart strip ship pass)
+mark_here chart strip ship s pass = passing_mark strip ship.number s (waypoint_name chart.port strip.place) (passing chart strip ship pass)
 
 -- a pass, where it is one of this waypoint
 abbrev pub pass_mark : ChartParts → Strip → Underway → ShipParts → Pass → List ℕ
@@ -63,7 +63,7 @@ pass_marks chart strip ship s [] = []
 pass_marks chart strip ship s (pass ∷ more) = pass_mark chart strip ship s pass ++ pass_marks chart strip ship s more
 
 abbrev pub underway : ChartParts → ℕ → ℕ → Underway
-underway chart v slot = record { slot = slot; draft = draft_in chart v slot }
+underway chart v slot = record { number = v; slot = slot; draft = draft_in chart v slot }
 
 -- the passes of a ship that sails
 abbrev pub course_marks : ChartParts → Strip → ℕ → ShipParts → Course → List ℕ

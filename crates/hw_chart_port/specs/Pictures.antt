@@ -14,7 +14,7 @@ use Rattle.hw_chart.specs.Headings.{heading}
 use Rattle.hw_chart.specs.Legends.{LegendEntry}
 use Rattle.hw_chart_port.specs.Charts.{ChartParts}
 use Rattle.hw_chart_port.specs.Spans.{port_picture_span}
-use Rattle.hw_chart_port.specs.Heads.{columns_where, places, sizes}
+use Rattle.hw_chart_port.specs.Heads.{columns_where, places, port_slots, sizes}
 use Rattle.hw_chart_port.specs.Legends.{port_legend}
 use Rattle.hw_chart_port.specs.Signs.{hatch_where}
 use Rattle.hw_chart_port.specs.Strips.{strips}
@@ -56,7 +56,7 @@ abbrev pub foot : ChartParts → List ℕ
 foot chart = concat (times chart ∷ horizon_line chart ∷ svg_end ∷ [])
 
 unfoldable pub picture_of_chart : ChartParts → Outcome → List ℕ
-picture_of_chart chart outcome = concat (head chart outcome ∷ panels chart ∷ foot chart ∷ [])
+picture_of_chart chart outcome = concat (port_slots chart.port ∷ head chart outcome ∷ panels chart ∷ foot chart ∷ [])
 
 abbrev pub chart_of : Parts → TideParts → Option (List ℕ) → ChartParts
 chart_of p h table = record { port = p; tide = h; table = table; span = port_picture_span p table }

@@ -4,7 +4,7 @@ use Rattle.std.specs.List.{concat}
 use Rattle.hw_chart_svg.specs.Lettering.{line, name_line}
 use Rattle.hw_chart_svg.specs.Numbers.{metres}
 use Rattle.hw_chart_svg.specs.Shapes.{shape}
-use Rattle.hw_chart_svg.specs.Sheets.{group_end, item_begin, list_begin, title_end}
+use Rattle.hw_chart_svg.specs.Sheets.{group_end, list_begin, ship_item_begin, title_end}
 use Rattle.hw_port.specs.Parts.{ShipParts}
 use Rattle.hw_port_model.specs.Numbers.{whole}
 use Rattle.hw_chart.specs.declared.course.Course.{Course}
@@ -46,7 +46,7 @@ abbrev pub row_label : ℕ → ShipParts → ℕ → List ℕ
 row_label v s y = row_name s y ++ row_number v (full_draft_word s) (whole (full_draft s)) y
 
 abbrev pub row_begin : ChartParts → ℕ → ShipParts → ℕ → List ℕ
-row_begin chart v s rank = concat (item_begin ∷ row_title chart v s (course chart v) ∷ title_end ∷ stripe rank (row_y chart rank) ∷ [])
+row_begin chart v s rank = concat (ship_item_begin v ∷ row_title chart v s (course chart v) ∷ title_end ∷ stripe rank (row_y chart rank) ∷ [])
 
 abbrev pub row_left : ℕ → ShipParts → ℕ → List ℕ
 row_left v s y = arrow s y ++ row_label v s y
@@ -62,7 +62,7 @@ row_right chart v s y (Sails slot) = sailing_parts chart v s slot y
 
 -- drafts and moves, and over the drafts what is closed
 abbrev pub row_windows : ChartParts → ℕ → ShipParts → ℕ → List ℕ
-row_windows chart v s y = concat (drafts_text chart v s (window_of chart s y) (course chart v) ∷ moves_text chart v y ∷ closings chart v (window_of chart s y) ∷ [])
+row_windows chart v s y = concat (drafts_text chart v s (window_of chart v s y) (course chart v) ∷ moves_text chart v y ∷ closings chart v (window_of chart v s y) ∷ [])
 
 -- what follows the beginning of a row
 abbrev pub row_rest : ChartParts → ℕ → ShipParts → ℕ → List ℕ

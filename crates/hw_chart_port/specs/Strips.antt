@@ -5,7 +5,7 @@ use Rattle.std.specs.List.{concat}
 use Rattle.hw_chart_svg.specs.Figures.{steps}
 use Rattle.hw_chart_svg.specs.Lettering.{line, name_line}
 use Rattle.hw_chart_svg.specs.Numbers.{height_text, metres}
-use Rattle.hw_chart_svg.specs.Sheets.{svg_end, window_begin}
+use Rattle.hw_chart_svg.specs.Sheets.{panel_begin, svg_end}
 use Rattle.hw_port.specs.declared.parts.Waypoint.{Waypoint}
 use Rattle.hw_tide.specs.Levels.{TideParts, height_at}
 use Rattle.hw_port_model.specs.Numbers.{whole}
@@ -56,7 +56,7 @@ abbrev pub strip_label : Strip → List ℕ → List ℕ
 strip_label strip name = name_line (codes "b") 16 (strip_y strip + 16) name 148 ++ line (codes "m") 16 (strip_y strip + 32) (concat (codes "charted " ∷ metres strip.depth ∷ codes " m" ∷ []))
 
 abbrev pub strip_window : ChartParts → Strip → List ℕ
-strip_window chart strip = window_begin (plot (strip_y strip) 40 chart.span (tall_between strip.low strip.high))
+strip_window chart strip = panel_begin (codes "tide") strip.place (plot (strip_y strip) 40 chart.span (tall_between strip.low strip.high))
 
 -- the water in the first few slots
 abbrev pub tide_steps : TideParts → Strip → ℕ → List ℕ

@@ -73,13 +73,14 @@ impl Levels for Openings<'_, '_> {
 }
 
 /// The window of a ship, in a row that begins here.
-pub fn window(chart: &Chart, ship: &Ship, y: u32) -> Sailings
+pub fn window(chart: &Chart, number: ShipId, ship: &Ship, y: u32) -> Sailings
     requires { ShipKept chart.now.port ship.now }
-    ensures value { result ≡ window_of chart.now ship.now y }
+    ensures value { result ≡ window_of chart.now number ship.now y }
     ensures end { result.end ≤ horizon_of chart.now.port }
 {
     let _few = chart.horizon();
     Sailings {
+        ship: number,
         y,
         span: chart.span(),
         tall: tall_over(full_draft(ship).abs_diff(ship.light)),

@@ -75,6 +75,7 @@ fn panel(chart: &Chart) -> Panel
 {
     let parts = chart.parts();
     Panel {
+        place: 0,
         y: places_of(parts).tugs,
         fleet: u64::from(natural(parts.fleet)),
         slots: chart.horizon(),

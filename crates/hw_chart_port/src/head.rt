@@ -1,17 +1,38 @@
-//! The sizes of a port, and the heads of the columns.
+//! What the slots of a port are, its sizes, and the heads of the columns.
 
 ghost use Rattle.std.specs.Prelude.{◌≡◌};
 ghost use Rattle.hw_desk.specs.Writers.{Puts};
 ghost use Rattle.hw_chart_svg.specs.Pieces.{picture_pieces_text};
 ghost use Rattle.hw_port.specs.Kept.{PortKept};
-ghost use Rattle.hw_chart_port.specs.Heads.{columns_where, places, sizes as sizes_of, sizes_text};
+ghost use Rattle.hw_chart_port.specs.Heads.{columns_where, places, port_slots, sizes as sizes_of, sizes_text, start_where};
 
 use crate::chart::Chart;
 use crate::places::places_of;
-use hw_chart_svg::{Piece, put_line};
+use hw_chart_svg::{Piece, put_line, put_minutes_of_slots, put_slots_begin, put_start_of_slots};
 use hw_desk::Writer;
 use hw_draft::natural;
 use hw_port::PortParts;
+
+/// Puts when slot 0 begins, where that has a date.
+fn put_start_where<W: Writer>(out: &mut W, parts: &PortParts)
+    ensures { Puts (start_where parts.now.start) (W.state out.old) (W.state out.new) }
+{
+    match &parts.start {
+        Some(start) => put_start_of_slots(out, &start.items),
+        None => out.put(b""),
+    }
+}
+
+/// Puts the beginning of a picture of a port: how many slots there are in which ships sail, how many minutes each has, and when
+/// slot 0 begins, where that has a date.
+pub fn put_port_slots<W: Writer>(out: &mut W, parts: &PortParts)
+    requires { PortKept parts.now }
+    ensures { Puts (port_slots parts.now) (W.state out.old) (W.state out.new) }
+{
+    put_slots_begin(out, u64::from(natural(parts.slots)));
+    put_minutes_of_slots(out, u64::from(natural(parts.slot_minutes)));
+    put_start_where(out, parts);
+}
 
 /// The sizes of a port, in pieces.
 #[tactic(auto, unfolding(crate::specs::Heads::sizes_text))]

@@ -12,7 +12,7 @@ use crate::numbers::by_direction;
 use crate::places::places_of;
 use hw_chart::{Course, plot};
 use hw_chart_svg::{
-    Area, Piece, put_block, put_line, put_name_line, put_svg_end, put_titled, put_window_begin,
+    Area, Piece, put_block, put_line, put_name_line, put_panel_begin, put_svg_end, put_titled,
 };
 use hw_desk::Writer;
 use hw_draft::natural;
@@ -162,7 +162,8 @@ fn put_lane<W: Writer>(out: &mut W, chart: &Chart, place: u32, section: &Section
         bottom: 2,
     };
     put_name_line(out, b"b", 16, y + 13, name, 148);
-    put_window_begin(out, plot(y, 18, chart.span(), 2));
+    let window = plot(y, 18, chart.span(), 2);
+    put_panel_begin(out, b"section", place, window);
     put_block(out, b"wi", ground);
     put_stays_from(out, chart, Lane { place, name }, 0, chart.ships());
     put_svg_end(out);

@@ -33,7 +33,7 @@ mod title;
 mod waters;
 
 pub use fleet::held_by_all;
-pub use head::sizes;
+pub use head::{put_port_slots, sizes};
 pub use laws::{fleet_suffices, legends_fit, moves_are_permitted, sails_between};
 pub use picture::put_port_picture;
 pub use places::{Places, places_of};

@@ -13,7 +13,7 @@ ghost use Rattle.hw_chart_port.specs.Passings.{course_marks, marks_from, need as
 use crate::chart::Chart;
 use crate::numbers::{by_direction, tall_over};
 use hw_chart::Course;
-use hw_chart_svg::{Area, Piece, put_titled};
+use hw_chart_svg::{Area, Owner, Piece, put_owned_titled};
 use hw_desk::Writer;
 use hw_draft::{Passage, natural};
 use hw_model::{MOST_SHIPS, MOST_SLOTS, ShipId, Slot};
@@ -29,9 +29,10 @@ pub struct Strip {
     pub high: i32,
 }
 
-/// A ship that sails: its slot, and its draft in centimetres.
+/// A ship that sails: its number, its slot, and its draft in centimetres.
 #[derive(Clone, Copy)]
 pub struct Underway {
+    pub number: ShipId,
     pub slot: Slot,
     pub draft: u32,
 }
@@ -154,7 +155,12 @@ fn put_pass<W: Writer>(
             bottom: tall(strip),
         };
         let title = title_of(ship, waypoint, passing);
-        put_titled(out, by_direction(ship, b"ou mk", b"in mk"), area, &title);
+        let owner = Owner {
+            ship: underway.number,
+            slot: passing.slot,
+        };
+        let class = by_direction(ship, b"ou mk", b"in mk");
+        put_owned_titled(out, class, owner, area, &title);
     } else {
         out.put(b"");
     }
@@ -200,7 +206,11 @@ fn put_course<W: Writer>(
         Course::Sails(slot) => {
             let _few = chart.horizon();
             let draft = chart.draft(number, slot);
-            let underway = Underway { slot, draft };
+            let underway = Underway {
+                number,
+                slot,
+                draft,
+            };
             put_passes(out, chart, strip, underway, ship, &ship.route);
         }
     }

@@ -6,7 +6,7 @@ ghost use Rattle.hw_chart_port.specs.Moves.{HasMoves};
 ghost use Rattle.hw_chart_port.specs.Pictures.{picture_of_chart, port_picture};
 
 use crate::chart::Chart;
-use crate::head::sizes;
+use crate::head::{put_port_slots, sizes};
 use crate::reasons::put_hint;
 use crate::rest::{bottom_of, put_rest};
 use crate::span::slots_shown;
@@ -22,6 +22,7 @@ fn put_picture<W: Writer>(out: &mut W, chart: &Chart, outcome: Outcome)
     ensures { Puts (picture_of_chart chart.now outcome) (W.state out.old) (W.state out.new) }
 {
     let height = u64::from(bottom_of(chart)) + 28;
+    put_port_slots(out, chart.parts());
     put_heading(
         out,
         CargoUnit::Tonnes,

@@ -19,7 +19,7 @@ use crate::sailing::sailing_of;
 use crate::title::put_row_title;
 use hw_chart::{Course, put_pin, put_stays, put_stripe, rank};
 use hw_chart_svg::{
-    Piece, put_group_end, put_item_begin, put_line, put_list_begin, put_name_line, put_shape,
+    Piece, put_group_end, put_line, put_list_begin, put_name_line, put_shape, put_ship_item_begin,
     put_title_end,
 };
 use hw_desk::Writer;
@@ -106,12 +106,12 @@ fn put_row<W: Writer>(out: &mut W, chart: &Chart, number: ShipId, ship: &Ship)
 {
     let rank = rank_of(chart, number);
     let y = places_of(chart.parts()).rows + 42 * rank;
-    put_item_begin(out);
+    put_ship_item_begin(out, number);
     put_row_title(out, chart, number, ship);
     put_title_end(out);
     put_stripe(out, rank, y);
     put_left(out, chart, number, ship, y);
-    let window = window(chart, ship, y);
+    let window = window(chart, number, ship, y);
     put_drafts(out, chart, number, ship, window, chart.course(number));
     put_moves(out, chart, number, y);
     put_closings(out, chart, number, window);

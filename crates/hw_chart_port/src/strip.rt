@@ -11,7 +11,7 @@ use crate::passing::{Strip, put_marks, tall};
 use crate::waters::put_strip_waters;
 use hw_chart::plot;
 use hw_chart_svg::{
-    Levels, Piece, put_line, put_name_line, put_steps, put_svg_end, put_window_begin,
+    Levels, Piece, put_line, put_name_line, put_panel_begin, put_steps, put_svg_end,
 };
 use hw_desk::Writer;
 use hw_draft::natural;
@@ -110,7 +110,8 @@ fn put_strip<W: Writer>(out: &mut W, chart: &Chart, strip: Strip, name: &[u8])
         y + 32,
         &[Piece::Word(b"charted "), depth, Piece::Word(b" m")],
     );
-    put_window_begin(out, plot(y, 40, chart.span(), tall(strip)));
+    let window = plot(y, 40, chart.span(), tall(strip));
+    put_panel_begin(out, b"tide", strip.place, window);
     put_tide(out, chart.tide(), strip, chart.shown());
     put_marks(out, chart, strip, 0, chart.ships());
     put_svg_end(out);

@@ -2,7 +2,7 @@
 use Rattle.std.specs.Prelude.{ℕ, ◌+◌, max, min, nat_lt, List, [], ◌∷◌, ◌++◌, Option, Some, None, codes, if◌then◌else◌}
 use Rattle.std.specs.List.{concat}
 use Rattle.hw_model.specs.Problem.{Problem, stays}
-use Rattle.hw_chart_svg.specs.Shapes.{block, titled}
+use Rattle.hw_chart_svg.specs.Shapes.{block, owned_block, owned_titled, titled}
 use Rattle.hw_chart_svg.specs.Sheets.{svg_end, window_begin}
 use Rattle.hw_chart_svg.specs.declared.area.Area.{Area}
 use Rattle.hw_chart.specs.Layout.{pin, plot}
@@ -53,31 +53,31 @@ hatched_until end = if nat_lt 0 end then block (codes "ht") (record { left = 0; 
 abbrev pub link : Problem → ℕ → ℕ → List ℕ
 link f old new = if stays f new then [] else block (codes "gh") (record { left = min old new; right = max old new + 1; top = 21; bottom = 23 })
 
-abbrev pub ghost_block : ℕ → List ℕ
-ghost_block old = block (codes "gh") (record { left = old; right = old + 1; top = 0; bottom = 21 })
+abbrev pub ghost_block : ℕ → ℕ → List ℕ
+ghost_block ship old = owned_block (codes "gh") (record { ship = ship; slot = old }) (record { left = old; right = old + 1; top = 0; bottom = 21 })
 
-abbrev pub ghost_marks : Problem → Option ℕ → ℕ → List ℕ
-ghost_marks f None new = []
-ghost_marks f (Some old) new = ghost_block old ++ link f old new
+abbrev pub ghost_marks : Problem → ℕ → Option ℕ → ℕ → List ℕ
+ghost_marks f ship None new = []
+ghost_marks f ship (Some old) new = ghost_block ship old ++ link f old new
 
 unfoldable pub mark_window : Problem → Spot → Wish → ℕ → List ℕ
-mark_window f s wish slot = concat (window_begin (plot (s.y + 3) 23 s.span 23) ∷ hatched_until (hatch_end wish) ∷ ghost_marks f (ghost_slot f wish slot) slot ∷ svg_end ∷ [])
+mark_window f s wish slot = concat (window_begin (plot (s.y + 3) 23 s.span 23) ∷ hatched_until (hatch_end wish) ∷ ghost_marks f s.ship (ghost_slot f wish slot) slot ∷ svg_end ∷ [])
 
 -- ---- beside the ship's name, and a pin over the slot
 
 abbrev pub sign_area : ℕ → Area
 sign_area y = record { left = 4; right = 12; top = y + 21; bottom = y + 33 }
 
-abbrev pub titled_sign : List ℕ → Spot → List ℕ → List ℕ
-titled_sign class s title = titled class (sign_area s.y) title
+abbrev pub slot_sign : List ℕ → Spot → ℕ → List ℕ → List ℕ
+slot_sign class s slot title = owned_titled class (record { ship = s.ship; slot = slot }) (sign_area s.y) title
 
 -- a ship that was planned for a slot, or to stay
 abbrev pub moved_sign : Spot → Option ℕ → List ℕ
-moved_sign s None = titled_sign (codes "gh") s (planned_stay_title s.ship)
-moved_sign s (Some old) = titled_sign (codes "gh") s (slot_title (slot_time_text s.scale s.midnight old) s.ship (codes " was planned for slot ") old) ++ pin (codes "gh") old s.span s.y
+moved_sign s None = titled (codes "gh") (sign_area s.y) (planned_stay_title s.ship)
+moved_sign s (Some old) = slot_sign (codes "gh") s old (slot_title (slot_time_text s.scale s.midnight old) s.ship (codes " was planned for slot ") old) ++ pin (codes "gh") old s.span s.y
 
 abbrev pub sailed_sign : Spot → ℕ → List ℕ
-sailed_sign s slot = titled_sign (codes "sd") s (slot_title (slot_time_text s.scale s.midnight slot) s.ship (codes " has sailed in slot ") slot) ++ pin (codes "sd") slot s.span s.y
+sailed_sign s slot = slot_sign (codes "sd") s slot (slot_title (slot_time_text s.scale s.midnight slot) s.ship (codes " has sailed in slot ") slot) ++ pin (codes "sd") slot s.span s.y
 
 abbrev pub sign_by : Problem → Spot → Wish → ℕ → Fate → List ℕ
 sign_by f s wish slot Moved = moved_sign s (if_sailing f (wished wish))

@@ -3,11 +3,14 @@
 ghost use Rattle.std.specs.Prelude.{◌≡◌, ◌≤◌, ◌<◌, ◌+◌};
 ghost use Rattle.hw_desk.specs.Writers.{Puts};
 ghost use Rattle.hw_chart_svg.specs.Pieces.{picture_pieces_text};
-ghost use Rattle.hw_chart_repair.specs.Marks.{ghost_block, ghost_marks, ghost_slot, hatch_end, hatched_until, if_sailing, link, mark_of_wish, mark_sign, mark_window, moved_sign, sailed_sign, titled_sign};
+ghost use Rattle.hw_chart_repair.specs.Marks.{ghost_block, ghost_marks, ghost_slot, hatch_end, hatched_until, if_sailing, link, mark_of_wish, mark_sign, mark_window, moved_sign, sailed_sign, sign_area, slot_sign};
 
 use crate::time::{slot_title, stay_title};
 use hw_chart::{Scale, plot, put_pin};
-use hw_chart_svg::{Area, Piece, put_block, put_svg_end, put_titled, put_window_begin};
+use hw_chart_svg::{
+    Area, Owner, Piece, put_block, put_owned_block, put_owned_titled, put_svg_end, put_titled,
+    put_window_begin,
+};
 use hw_desk::Writer;
 use hw_flat::Flat;
 use hw_model::{ShipId, Slot};
@@ -90,9 +93,9 @@ fn put_link<W: Writer>(out: &mut W, flat: &Flat, old: Slot, new: Slot)
     }
 }
 
-/// Puts the mark of an old slot.
-fn put_ghost_block<W: Writer>(out: &mut W, old: Slot)
-    ensures { Puts (ghost_block old) (W.state out.old) (W.state out.new) }
+/// Puts the mark of a ship's old slot.
+fn put_ghost_block<W: Writer>(out: &mut W, ship: ShipId, old: Slot)
+    ensures { Puts (ghost_block ship old) (W.state out.old) (W.state out.new) }
 {
     let area = Area {
         left: u64::from(old),
@@ -100,17 +103,18 @@ fn put_ghost_block<W: Writer>(out: &mut W, old: Slot)
         top: 0,
         bottom: 21,
     };
-    put_block(out, b"gh", area);
+    let owner = Owner { ship, slot: old };
+    put_owned_block(out, b"gh", owner, area);
 }
 
-/// Puts the old slot, where there is one, and the line to the new one.
-fn put_ghost<W: Writer>(out: &mut W, flat: &Flat, old: Option<Slot>, new: Slot)
-    ensures { Puts (ghost_marks flat.now old new) (W.state out.old) (W.state out.new) }
+/// Puts a ship's old slot, where there is one, and the line to the new one.
+fn put_ghost<W: Writer>(out: &mut W, flat: &Flat, ship: ShipId, old: Option<Slot>, new: Slot)
+    ensures { Puts (ghost_marks flat.now ship old new) (W.state out.old) (W.state out.new) }
 {
     match old {
         None => out.put(b""),
         Some(old) => {
-            put_ghost_block(out, old);
+            put_ghost_block(out, ship, old);
             put_link(out, flat, old, new);
         }
     }
@@ -123,22 +127,32 @@ fn put_mark_window<W: Writer>(out: &mut W, flat: &Flat, spot: Spot, wish: Wish, 
 {
     put_window_begin(out, plot(u64::from(spot.y) + 3, 23, spot.span, 23));
     put_hatched(out, hatch_end(wish));
-    put_ghost(out, flat, ghost_slot(flat, wish, slot), slot);
+    put_ghost(out, flat, spot.ship, ghost_slot(flat, wish, slot), slot);
     put_svg_end(out);
 }
 
-/// Puts a sign beside the ship's name.
-fn put_sign<W: Writer>(out: &mut W, class: &[u8], spot: Spot, title: &[Piece])
-    ensures { Puts (titled_sign class.now spot (picture_pieces_text title.now)) (W.state out.old) (W.state out.new) }
+/// Where a sign stands beside the ship's name.
+fn sign_area(spot: Spot) -> Area
+    ensures { result ≡ sign_area spot.y }
 {
     let y = u64::from(spot.y);
-    let area = Area {
+    Area {
         left: 4,
         right: 12,
         top: y + 21,
         bottom: y + 33,
+    }
+}
+
+/// Puts a sign of a slot beside the ship's name.
+fn put_slot_sign<W: Writer>(out: &mut W, class: &[u8], spot: Spot, slot: Slot, title: &[Piece])
+    ensures { Puts (slot_sign class.now spot slot (picture_pieces_text title.now)) (W.state out.old) (W.state out.new) }
+{
+    let owner = Owner {
+        ship: spot.ship,
+        slot,
     };
-    put_titled(out, class, area, title);
+    put_owned_titled(out, class, owner, sign_area(spot), title);
 }
 
 /// Puts that the ship was planned for a slot, or to stay.
@@ -147,10 +161,10 @@ fn put_moved_sign<W: Writer>(out: &mut W, spot: Spot, old: Option<Slot>)
     ensures { Puts (moved_sign spot old) (W.state out.old) (W.state out.new) }
 {
     match old {
-        None => put_sign(out, b"gh", spot, &stay_title(spot.ship)),
+        None => put_titled(out, b"gh", sign_area(spot), &stay_title(spot.ship)),
         Some(old) => {
             let title = slot_title(spot, b" was planned for slot ", old);
-            put_sign(out, b"gh", spot, &title);
+            put_slot_sign(out, b"gh", spot, old, &title);
             put_pin(out, b"gh", old, spot.span, spot.y);
         }
     }
@@ -162,7 +176,7 @@ fn put_sailed_sign<W: Writer>(out: &mut W, spot: Spot, slot: Slot)
     ensures { Puts (sailed_sign spot slot) (W.state out.old) (W.state out.new) }
 {
     let title = slot_title(spot, b" has sailed in slot ", slot);
-    put_sign(out, b"sd", spot, &title);
+    put_slot_sign(out, b"sd", spot, slot, &title);
     put_pin(out, b"sd", slot, spot.span, spot.y);
 }
 

@@ -2,11 +2,13 @@
 use Rattle.std.proofs.Common.{◌≡◌, ◌++◌, ◌∙◌, ℕ, Bool, true, false, if◌then◌else◌, List, [], ◌∷◌, codes, decimal, refl, ap, sym, append-nil}
 use Rattle.std.specs.List.{concat}
 use Rattle.std.proofs.lemmas.List.Folds.{concat-append}
+use Rattle.std.proofs.lemmas.List.{append_cancel_left}
 use Rattle.hw_chart_svg.specs.Lettering.{line, text_begin}
 use Rattle.hw_chart_svg.specs.Names.{byte_text, escaped}
-use Rattle.hw_chart_svg.specs.Shapes.{shape_begin}
+use Rattle.hw_chart_svg.specs.Shapes.{owned_begin, shape_begin}
 use Rattle.hw_chart_svg.specs.Sheets.{picture, size_begin, svg_end, title_end}
 use Rattle.hw_chart_svg.specs.Trees.{Attribute, words, element, no_more, node, attributes_text, nodes_text}
+use Rattle.hw_chart_svg.specs.declared.shape.Owner.{Owner}
 use Rattle.hw_chart_svg.specs.WellFormed.{attribute, on_a_line, picture_attributes, place_attributes, title_node}
 
 -- texts among others
@@ -87,7 +89,7 @@ name_nested class x y name shown false = line_nested class x y (escaped name)
 
 -- the attributes of a picture, and of these the numbers of its view
 abbrev attributes_with : ℕ → ℕ → List ℕ → List ℕ → List Attribute
-attributes_with width height title view = attribute (codes "xmlns") (codes "http://www.w3.org/2000/svg") ∷ attribute (codes "width") (decimal width) ∷ attribute (codes "height") (decimal height) ∷ attribute (codes "viewBox") view ∷ attribute (codes "role") (codes "graphics-document") ∷ attribute (codes "aria-label") title ∷ attribute (codes "xml:lang") (codes "en") ∷ attribute (codes "xml:space") (codes "preserve") ∷ []
+attributes_with width height title view = attribute (codes "height") (decimal height) ∷ attribute (codes "viewBox") view ∷ attribute (codes "role") (codes "graphics-document") ∷ attribute (codes "aria-label") title ∷ attribute (codes "xml:lang") (codes "en") ∷ attribute (codes "xml:space") (codes "preserve") ∷ []
 
 abbrev view_pieces : ℕ → ℕ → List (List ℕ)
 view_pieces width height = codes "0 0 " ∷ decimal width ∷ codes " " ∷ decimal height ∷ []
@@ -109,11 +111,34 @@ picture_whole width height title inside =
     ∙ ap (λ (l : List ℕ). element_text (codes "svg") (attributes_with width height title (concat (view_pieces width height))) l ++ (codes "\n" ++ [])) (picture_inside title inside)
     ∙ on_line (codes "svg") (attributes_with width height title (concat (view_pieces width height))) (inside_pieces title inside)
 
-pub picture_nested : (width height : ℕ) (title inside : List ℕ) → picture width height title inside ≡ element_text (codes "svg") (picture_attributes width height title) (codes "\n" ++ (element_text (codes "title") [] (title ++ []) ++ (codes "\n" ++ inside))) ++ (codes "\n" ++ [])
+picture_begun : (width height : ℕ) (title inside : List ℕ) → codes "<svg" ++ picture width height title inside ≡ element_text (codes "svg") (picture_attributes width height title) (codes "\n" ++ (element_text (codes "title") [] (title ++ []) ++ (codes "\n" ++ inside))) ++ (codes "\n" ++ [])
 unfolding size_begin
-picture_nested width height title inside =
+picture_begun width height title inside =
     let more = title ∷ codes "\" xml:lang=\"en\" xml:space=\"preserve\">\n<title>" ∷ title ∷ title_end ∷ inside ∷ svg_end ∷ [] in
-    among [] (size_begin width height ∷ title ∷ codes "\" xml:lang=\"en\" xml:space=\"preserve\">\n<title>" ∷ title ∷ title_end ∷ []) (inside ∷ svg_end ∷ [])
-    ∙ among [] (codes "<svg xmlns=\"http://www.w3.org/2000/svg\" width=\"" ∷ decimal width ∷ codes "\" height=\"" ∷ decimal height ∷ codes "\" viewBox=\"" ∷ codes "0 0 " ∷ decimal width ∷ codes " " ∷ decimal height ∷ codes "\" role=\"graphics-document\" aria-label=\"" ∷ []) more
-    ∙ sym (among (codes "<svg xmlns=\"http://www.w3.org/2000/svg\" width=\"" ∷ decimal width ∷ codes "\" height=\"" ∷ decimal height ∷ codes "\" viewBox=\"" ∷ []) (view_pieces width height) (codes "\" role=\"graphics-document\" aria-label=\"" ∷ more))
+    among [] ((codes "<svg" ++ size_begin width height) ∷ title ∷ codes "\" xml:lang=\"en\" xml:space=\"preserve\">\n<title>" ∷ title ∷ title_end ∷ []) (inside ∷ svg_end ∷ [])
+    ∙ among [] (codes "<svg height=\"" ∷ decimal height ∷ codes "\" viewBox=\"" ∷ codes "0 0 " ∷ decimal width ∷ codes " " ∷ decimal height ∷ codes "\" role=\"graphics-document\" aria-label=\"" ∷ []) more
+    ∙ sym (among (codes "<svg height=\"" ∷ decimal height ∷ codes "\" viewBox=\"" ∷ []) (view_pieces width height) (codes "\" role=\"graphics-document\" aria-label=\"" ∷ more))
     ∙ sym (picture_whole width height title inside)
+
+attributes-append : (a b : List Attribute) → attributes_text (a ++ b) ≡ attributes_text a ++ attributes_text b
+attributes-append [] b = refl
+attributes-append (x ∷ a) b = ap (λ (l : List ℕ). concat (attribute_pieces x) ++ l) (attributes-append a b) ∙ sym (append_assoc (concat (attribute_pieces x)) (attributes_text a) (attributes_text b))
+
+-- a picture after attributes of what its slots are
+pub picture_nested : (slots : List Attribute) (width height : ℕ) (title inside : List ℕ) → codes "<svg" ++ (attributes_text slots ++ picture width height title inside) ≡ element_text (codes "svg") (slots ++ picture_attributes width height title) (codes "\n" ++ (element_text (codes "title") [] (title ++ []) ++ (codes "\n" ++ inside))) ++ (codes "\n" ++ [])
+picture_nested slots width height title inside =
+    let own : List ℕ = attributes_text slots in
+    let others : List ℕ = attributes_text (picture_attributes width height title) in
+    let holds : List ℕ = codes ">" ++ ((codes "\n" ++ (element_text (codes "title") [] (title ++ []) ++ (codes "\n" ++ inside))) ++ (codes "</" ++ (codes "svg" ++ (codes ">" ++ [])))) in
+    let same : picture width height title inside ≡ (others ++ holds) ++ (codes "\n" ++ []) = append_cancel_left (codes "<svg") (picture width height title inside) ((others ++ holds) ++ (codes "\n" ++ [])) (picture_begun width height title inside) in
+    ap (λ (l : List ℕ). codes "<svg" ++ (own ++ l)) same
+    ∙ ap (λ (l : List ℕ). codes "<svg" ++ l) (sym (append_assoc own (others ++ holds) (codes "\n" ++ [])) ∙ ap (λ (l : List ℕ). l ++ (codes "\n" ++ [])) (sym (append_assoc own others holds) ∙ ap (λ (l : List ℕ). l ++ holds) (sym (attributes-append slots (picture_attributes width height title)))))
+
+-- a shape that marks a slot, with a title
+pub owned_nested : (class path title : List ℕ) (o : Owner) → concat (owned_begin class o ∷ path ∷ codes "\"><title>" ∷ title ∷ codes "</title></path>\n" ∷ []) ≡ element_text (codes "path") (attribute (codes "data-ship") (decimal o.ship) ∷ attribute (codes "data-slot") (decimal o.slot) ∷ shape_attributes class path) (element_text (codes "title") [] (title ++ []) ++ []) ++ (codes "\n" ++ [])
+unfolding owned_begin
+owned_nested class path title o =
+    let attributes : List Attribute = attribute (codes "data-ship") (decimal o.ship) ∷ attribute (codes "data-slot") (decimal o.slot) ∷ shape_attributes class path in
+    let inside : element_text (codes "title") [] (title ++ []) ++ [] ≡ concat (title_pieces title) = ap (λ (l : List ℕ). l ++ []) (element_joined (codes "title") [] (title ∷ [])) ∙ joined-append (title_pieces title) [] in
+    let whole = ap (λ (l : List ℕ). element_text (codes "path") attributes l ++ (codes "\n" ++ [])) inside ∙ on_line (codes "path") attributes (title_pieces title) in
+    among [] (codes "<path data-ship=\"" ∷ decimal o.ship ∷ codes "\" data-slot=\"" ∷ decimal o.slot ∷ codes "\" class=\"" ∷ class ∷ codes "\" d=\"" ∷ []) (path ∷ codes "\"><title>" ∷ title ∷ codes "</title></path>\n" ∷ []) ∙ sym whole

@@ -3,7 +3,7 @@
 ghost use Rattle.hw_chart_svg.specs.Lettering.{NameLinesReadBack};
 ghost use Rattle.hw_chart_svg.specs.Shortened.{BeginningsAreLongest};
 ghost use Rattle.hw_chart_svg.specs.Marks.{AreasHaveNoMarks, NamesAreWords, NamesReadBack, SameTextSameLevels, StepsHaveNoMarks};
-ghost use Rattle.hw_chart_svg.specs.WellFormed.{BlocksAreElements, ItemsAreElements, LinesAreElements, ListsAreElements, NameLinesAreElements, PicturesAreElements, StepsAreElements, TitledAreElements, WindowsAreElements};
+ghost use Rattle.hw_chart_svg.specs.WellFormed.{BlocksAreElements, ItemsAreElements, LinesAreElements, ListsAreElements, NameLinesAreElements, OwnedAreElements, OwnedTitledAreElements, PanelsAreElements, PicturesAreElements, ShipItemsAreElements, StepsAreElements, TitledAreElements, WindowsAreElements};
 
 /// A filled area is an element of a tree.
 #[tactic(auto, unfolding(crate::specs::Shapes::shape_begin, crate::specs::Names::byte_text))]
@@ -15,6 +15,16 @@ pub fn blocks_are_elements()
 #[tactic(auto, unfolding(crate::specs::Shapes::shape_begin, crate::specs::Names::byte_text))]
 pub fn titled_are_elements()
     ensures { TitledAreElements }
+{}
+
+/// A filled area that marks a slot of a ship is an element of a tree, which has their numbers as attributes.
+pub fn owned_are_elements()
+    ensures { OwnedAreElements }
+{}
+
+/// The same of one with a title, whatever the title is.
+pub fn owned_titled_are_elements()
+    ensures { OwnedTitledAreElements }
 {}
 
 /// A filled figure is an element of a tree.
@@ -45,9 +55,14 @@ pub fn beginnings_are_longest()
 {}
 
 /// A window is an element of a tree if what is seen in it is elements.
-#[tactic(auto, unfolding(crate::specs::Sheets::window_begin, crate::specs::Names::byte_text))]
+#[tactic(auto, unfolding(crate::specs::Sheets::window_begin, crate::specs::Sheets::window_box, crate::specs::Names::byte_text))]
 pub fn windows_are_elements()
     ensures { WindowsAreElements }
+{}
+
+/// A panel is an element of a tree if what is seen in it is elements, and has its kind and its place as attributes.
+pub fn panels_are_elements()
+    ensures { PanelsAreElements }
 {}
 
 /// A list is an element of a tree if what stands in it is elements.
@@ -60,6 +75,11 @@ pub fn lists_are_elements()
 #[tactic(auto, unfolding(crate::specs::Names::byte_text))]
 pub fn items_are_elements()
     ensures { ItemsAreElements }
+{}
+
+/// The same of a ship's item, which has the ship's number as an attribute.
+pub fn ship_items_are_elements()
+    ensures { ShipItemsAreElements }
 {}
 
 /// A picture is an element of a tree if what stands on it is elements, and no mark stands in its title.

@@ -2,11 +2,18 @@
 
 ghost use Rattle.hw_desk.specs.Writers.{Puts};
 ghost use Rattle.hw_chart_svg.specs.Pieces.{picture_pieces_text};
-ghost use Rattle.hw_chart_svg.specs.Shapes.{area_path, block, shape, shape_begin, titled};
+ghost use Rattle.hw_chart_svg.specs.Shapes.{area_path, block, owned_begin, owned_block, owned_titled, shape, shape_begin, titled};
 
 use crate::area::Area;
 use crate::piece::{Piece, put_pieces};
 use hw_desk::Writer;
+
+/// Of which ship a shape marks which slot, by their numbers.
+#[derive(Clone, Copy)]
+pub struct Owner {
+    pub ship: u32,
+    pub slot: u32,
+}
 
 /// Puts the beginning of a shape of a class, before its path.
 #[tactic(auto, unfolding(crate::specs::Shapes::shape_begin))]
@@ -64,6 +71,51 @@ pub fn put_titled<W: Writer>(out: &mut W, class: &[u8], area: Area, title: &[Pie
     ensures { Puts (titled class.now area (picture_pieces_text title.now)) (W.state out.old) (W.state out.new) }
 {
     put_shape_begin(out, class);
+    put_area_path(out, area);
+    out.put(b"\"><title>");
+    put_pieces(out, title);
+    out.put(b"</title></path>\n");
+}
+
+/// Puts the beginning of a shape that marks a slot of a ship.
+#[tactic(auto, unfolding(crate::specs::Shapes::owned_begin))]
+fn put_owned_begin<W: Writer>(out: &mut W, class: &[u8], owner: Owner)
+    ensures { Puts (owned_begin class.now owner) (W.state out.old) (W.state out.new) }
+{
+    put_pieces(
+        out,
+        &[
+            Piece::Word(b"<path data-ship=\""),
+            Piece::Number(u64::from(owner.ship)),
+            Piece::Word(b"\" data-slot=\""),
+            Piece::Number(u64::from(owner.slot)),
+            Piece::Word(b"\" class=\""),
+            Piece::Word(class),
+            Piece::Word(b"\" d=\""),
+        ],
+    );
+}
+
+/// Puts a filled area that marks a slot of a ship.
+pub fn put_owned_block<W: Writer>(out: &mut W, class: &[u8], owner: Owner, area: Area)
+    ensures { Puts (owned_block class.now owner area) (W.state out.old) (W.state out.new) }
+{
+    put_owned_begin(out, class, owner);
+    put_area_path(out, area);
+    out.put(b"\"/>\n");
+}
+
+/// Puts a filled area that marks a slot of a ship, with a title, which viewers show on request.
+pub fn put_owned_titled<W: Writer>(
+    out: &mut W,
+    class: &[u8],
+    owner: Owner,
+    area: Area,
+    title: &[Piece],
+)
+    ensures { Puts (owned_titled class.now owner area (picture_pieces_text title.now)) (W.state out.old) (W.state out.new) }
+{
+    put_owned_begin(out, class, owner);
     put_area_path(out, area);
     out.put(b"\"><title>");
     put_pieces(out, title);

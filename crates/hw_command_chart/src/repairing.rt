@@ -12,8 +12,9 @@ ghost use Rattle.hw_command_chart.specs.Repairs.{flat_drawn, moved_in, port_draw
 
 use hw_chart::{CargoUnit, Outcome, Scale};
 use hw_chart_flat::{Plan, bottom, put_flat_rest, sizes, slots_shown};
-use hw_chart_port::{places_of, put_port_rest};
+use hw_chart_port::{places_of, put_port_rest, put_port_slots};
 use hw_chart_repair::{Sheet, own_outcome, put_marked_end, put_repair_head, repair_entries};
+use hw_chart_svg::put_slots_begin;
 use hw_desk::Writer;
 use hw_flat::{Flat, Timetable};
 use hw_port::Port;
@@ -69,6 +70,7 @@ pub(crate) fn put_flat_repair<W: Writer>(out: &mut W, drawn: Drawn)
         scale: Scale::Slots,
         midnight: 0,
     };
+    put_slots_begin(out, u64::from(flat.horizon()));
     put_repair_head(out, CargoUnit::Plain, own, count, height, &sizes(flat));
     let table = table_of(drawn.moves);
     let entries = repair_entries(flat, table, &plan.wishes);
@@ -116,6 +118,7 @@ pub(crate) fn put_port_repair<W: Writer>(out: &mut W, port: &Port, tide: &Tide, 
         scale: Scale::Minutes(slot_minutes(port)),
         midnight: midnight(port),
     };
+    put_port_slots(out, parts);
     put_repair_head(
         out,
         CargoUnit::Tonnes,

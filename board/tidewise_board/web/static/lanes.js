@@ -1,6 +1,6 @@
 // Berths: a lane for each under the ships' rows, on the same axis, with who lies there from when to when.
 import {make} from './api.js';
-import {LEFT, WIDE, x_of} from './rows.js';
+import {axis_of, x_of} from './rows.js';
 import {shape} from './shapes.js';
 
 const HEIGHT = 24;
@@ -11,31 +11,31 @@ const OWN = 'svg{display:block;width:100%;min-width:960px;max-width:1600px;heigh
 
 /** Draws the lanes on the axis of a picture; `said` is told a stay's words. */
 export function lanes(host, {lanes: all, slots}, picture, said) {
-  const span = picture.rows?.[0]?.span ?? slots, wide = picture.svg?.viewBox.baseVal.width ?? 1280;
+  const axis = axis_of(picture, slots), wide = picture.svg?.viewBox.baseVal.width ?? 1280;
   const shadow = host.shadowRoot ?? host.attachShadow({mode: 'open'}), sheet = new CSSStyleSheet();
   sheet.replaceSync(OWN);
   shadow.adoptedStyleSheets = [sheet];
   const high = Math.max(1, all.length) * HEIGHT;
   const svg = shape('svg', {viewBox: `0 0 ${wide} ${high}`, role: 'list', 'aria-label': 'Berths'});
-  all.forEach((lane, place) => svg.append(...drawn(lane, place * HEIGHT, slots, span, said)));
+  all.forEach((lane, place) => svg.append(...drawn(lane, place * HEIGHT, slots, axis, said)));
   if (all.length) shadow.replaceChildren(svg); else shadow.replaceChildren(make('span', {}, 'No ship of this day has a berth.'));
 }
 
-function drawn(lane, top, slots, span, said) {
+function drawn(lane, top, slots, axis, said) {
   const words = lane.clear === null ? '' : `clear ${lane.clear} slot${lane.clear === 1 ? '' : 's'}`;
-  return [shape('rect', {class: 'lane', x: LEFT, y: top + 2, width: WIDE, height: HEIGHT - 4}),
-    shape('text', {class: 'b', x: 16, y: top + 16}, lane.name), shape('text', {class: 'm', x: LEFT - 8, y: top + 16, 'text-anchor': 'end'}, words),
-    ...lane.stays.flatMap((stay) => bar(stay, top, slots, span, said))];
+  return [shape('rect', {class: 'lane', x: axis.left, y: top + 2, width: axis.wide, height: HEIGHT - 4}),
+    shape('text', {class: 'b', x: 16, y: top + 16}, lane.name), shape('text', {class: 'm', x: axis.left - 8, y: top + 16, 'text-anchor': 'end'}, words),
+    ...lane.stays.flatMap((stay) => bar(stay, top, slots, axis, said))];
 }
 
-function bar(stay, top, slots, span, said) {
-  const from = x_of(span, stay.first ?? 0), to = Math.max(from + 3, x_of(span, stay.last ?? slots));
+function bar(stay, top, slots, axis, said) {
+  const from = x_of(axis, stay.first ?? 0), to = Math.max(from + 3, x_of(axis, stay.last ?? slots));
   const open = stay.first === null || stay.last === null;
   const one = shape('rect', {class: `stay${open ? ' open' : ''}`, x: from, y: top + 4, width: to - from, height: HEIGHT - 8, rx: 2, tabindex: 0,
     role: 'listitem', 'aria-label': stay.said}, shape('title', {}, stay.said));
   for (const kind of ['focus', 'pointerenter']) one.addEventListener(kind, () => said(stay.said));
   const beside = to - from < 7 * stay.name.length + 8;
-  const left = beside && to + 7 * stay.name.length > LEFT + WIDE;
+  const left = beside && to + 7 * stay.name.length > axis.left + axis.wide;
   const who = shape('text', {class: 'who', x: beside ? (left ? from - 4 : to + 4) : from + 5, y: top + 16, 'text-anchor': left ? 'end' : 'start'}, stay.name);
   return [one, who];
 }

@@ -1,5 +1,5 @@
 // A layer over the picture's rows: they can be pointed at, dragged, and taken with keys.
-import {LEFT, WIDE, x_of} from './rows.js';
+import {x_of} from './rows.js';
 import {shape} from './shapes.js';
 
 export class Layer {
@@ -18,7 +18,7 @@ export class Layer {
 
   row(row) {
     const now = Math.min(this.facts[row.ship].slot, this.slots - 1);
-    const hit = shape('rect', {class: 'hit', x: LEFT, y: row.y, width: WIDE, height: 41, tabindex: 0, role: 'slider', 'data-ship': row.ship,
+    const hit = shape('rect', {class: 'hit', x: row.left, y: row.y, width: row.wide, height: 41, tabindex: 0, role: 'slider', 'data-ship': row.ship,
       'aria-label': `${this.facts[row.ship].name}, slot`, 'aria-valuemin': 0, 'aria-valuemax': this.slots - 1, 'aria-valuenow': now});
     const state = {row, hit, now, at: now, from: null};
     if (row.ship in this.pins) held(this.svg, this.over, row, this.pins[row.ship]);
@@ -39,7 +39,7 @@ export class Layer {
     const {hit, row} = state;
     const slot = (event) => {
       const point = new DOMPoint(event.clientX, event.clientY).matrixTransform(this.svg.getScreenCTM().inverse());
-      return Math.max(0, Math.min(this.slots - 1, Math.floor((point.x - LEFT) * row.span / WIDE)));
+      return Math.max(0, Math.min(this.slots - 1, Math.floor((point.x - row.left) * row.span / row.wide)));
     };
     hit.addEventListener('pointermove', (event) => this.look(state, slot(event)));
     hit.addEventListener('pointerdown', (event) => {
@@ -70,7 +70,7 @@ export class Layer {
   look(state, slot) {
     const {row, hit} = state;
     state.at = Math.max(0, Math.min(this.slots - 1, slot));
-    const words = this.said(row.ship, state.at), x = x_of(row.span, state.at), wide = Math.max(3, WIDE / row.span), view = this.svg.viewBox.baseVal;
+    const words = this.said(row.ship, state.at), x = x_of(row, state.at), wide = Math.max(3, row.wide / row.span), view = this.svg.viewBox.baseVal;
     const set = (one, props) => { for (const [name, value] of Object.entries(props)) one.setAttribute(name, value); };
     set(this.frame, {x: x + wide / 2 - Math.max(5, wide) / 2, width: Math.max(5, wide), y: row.y + 1});
     this.frame.classList.toggle('no', !words.free);
@@ -83,16 +83,15 @@ export class Layer {
 
 /** A pin is a `k` line of a plan, which the picture calls sailed: the board hides that sign, and puts its own. */
 export function held(svg, over, row, slot) {
-  for (const sign of svg.querySelectorAll('path.sd>title')) {
-    if (!sign.textContent.startsWith(`ship ${row.ship} has sailed `)) continue;
-    sign.parentNode.nextElementSibling?.remove();
-    sign.parentNode.remove();
+  for (const sign of svg.querySelectorAll(`path.sd[data-ship="${row.ship}"]`)) {
+    sign.nextElementSibling?.remove();
+    sign.remove();
   }
   const entry = [...svg.querySelectorAll(':scope>text.m')].find((one) => one.textContent === 'has sailed');
-  if (entry && !svg.querySelector('path.sd>title')) {
+  if (entry && !svg.querySelector('path.sd[data-ship]')) {
     entry.textContent = 'held';
     entry.previousElementSibling.setAttribute('class', 'held');
   }
-  const x = x_of(row.span, slot + 0.5);
+  const x = x_of(row, slot + 0.5);
   over.append(shape('path', {class: 'held', d: `M${x - 4} ${row.y - 1}h8v5l-3 3v5l-1 3l-1 -3v-5l-3 -3z`}));
 }

@@ -13,7 +13,7 @@ export function line(picture, slot, clock = '') {
   picture.svg.querySelector('.nowline')?.remove();
   const row = picture.rows?.[0];
   if (slot === null || !row || slot < 0 || slot > row.span) return;
-  const box = picture.svg.viewBox.baseVal, x = x_of(row.span, slot);
+  const box = picture.svg.viewBox.baseVal, x = x_of(row, slot);
   const group = shape('g', {class: 'nowline', color: 'var(--orange)', 'pointer-events': 'none', role: 'img', 'aria-label': `now: ${clock}`});
   group.append(shape('path', {d: `M${x} ${box.y + LINE}V${box.y + box.height - 24}`, stroke: 'currentColor', 'stroke-width': 2, 'stroke-dasharray': '5 3', fill: 'none'}),
     shape('text', {x: x + 5, y: Math.min(...picture.rows.map((one) => one.y)) - ABOVE, class: 'lab', fill: 'currentColor', 'font-size': 11}, `now ${clock}`));

@@ -1,21 +1,24 @@
 // The rows of ships in the program's picture: where they are, and the drafts that they show.
 
-// The frame of a row's slots in the picture: where it begins, and how wide it is.
-export const LEFT = 172;
-export const WIDE = 720;
+// Where the slots stand if there is no picture.
+const ALONE = {left: 172, wide: 720};
 
-/** Where a slot begins in a row whose frame spans so many slots. */
-export const x_of = (span, slot) => LEFT + slot * WIDE / span;
+/** The axis of a picture's rows: where it begins, how wide it is, and how many slots it spans. */
+export const axis_of = (picture, slots) => picture.rows?.[0] ?? {...ALONE, span: slots};
 
-/** The rows: the picture names a ship's number only in its texts, so it is read there. */
+/** Where a slot begins on an axis. */
+export const x_of = ({left, wide, span}, slot) => left + slot * wide / span;
+
+/** The rows, found by the names that docs/PICTURE.md promises; only a ship's full draft is read in a text. */
 export function rows_of(svg) {
   const rows = [];
-  for (const group of svg.querySelectorAll('g[role="listitem"]')) {
-    const said = [...group.querySelectorAll(':scope>text.m')].map((one) => /^ship (\d+), (?:full|draft) (-?[\d.]+) m$/.exec(one.textContent)).find(Boolean);
-    const frame = group.querySelector(':scope>svg[height="21"]');
+  for (const group of svg.querySelectorAll('g[data-ship]')) {
+    const ship = group.getAttribute('data-ship'), frame = group.querySelector(`svg[data-panel="row"][data-place="${ship}"]`);
+    const said = [...group.querySelectorAll(':scope>text.m')].map((one) => /^ship \d+, (?:full|draft) (-?[\d.]+) m$/.exec(one.textContent)).find(Boolean);
     if (!said || !frame) continue;
-    rows.push({ship: Number(said[1]), y: Number(frame.getAttribute('y')) - 3, full: Math.round(Number(said[2]) * 100),
-      span: Number(frame.getAttribute('viewBox').split(' ')[2]), drafts: levels(frame.querySelector('path.dr')), group});
+    const [left, top, wide] = ['x', 'y', 'width'].map((name) => Number(frame.getAttribute(name)));
+    rows.push({ship: Number(ship), y: top - 3, left, wide, span: Number(frame.getAttribute('viewBox').split(' ')[2]),
+      full: Math.round(Number(said[1]) * 100), drafts: levels(frame.querySelector('path.dr')), group});
   }
   return rows;
 }

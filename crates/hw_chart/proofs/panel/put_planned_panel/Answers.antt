@@ -6,9 +6,8 @@ pub returns : goal.returns
 returns g c =
     let from_first : c.args.panel.slots - 0 ≡ c.args.panel.slots = omega arith in
     let tall = c.tall-tall.ensures in
-    let window = rw c.panel_window.ensures at c.put_window_begin.ensures in
     let rising = rw (tall, from_first) at c.put_steps.ensures in
     let full = rw (tall, from_first) at c.put_steps-2.ensures in
     let inside = puts_on c.put_panel_ground.ensures (puts_on rising (puts_on full (puts_nothing _))) in
     let most = rw (c.from.ensures, c.greatest-most.ensures) at c.put_line.ensures in
-    puts_on c.put_fleet_label.ensures (puts_on window (puts_on inside (puts_on c.put_svg_end.ensures (puts_on most (puts_nothing _)))))
+    puts_on c.put_fleet_label.ensures (puts_on c.put_panel_window.ensures (puts_on inside (puts_on c.put_svg_end.ensures (puts_on most (puts_nothing _)))))

@@ -22,4 +22,5 @@ returns g c =
     let bottom = flat_picture_bottom flat in
     let begin = rw (c.sizes.ensures, c.from-height.ensures, c.bottom.ensures.value) at c.put_heading.ensures in
     let same = regrouped (heading Plain c.args.outcome (bottom + 28) (flat_picture_sizes flat)) (flat_legend flat table []) (body flat table) (grid Slots span bottom) (span_end (horizon flat) span bottom) svg_end in
-    puts_same _ same (puts_on begin (puts_on c.put_flat_rest.ensures (puts_on c.put_svg_end.ensures (puts_nothing _))))
+    let slots = rw (c.from.ensures, c.horizon.ensures.value) at c.put_slots_begin.ensures in
+    puts_on slots (puts_same _ same (puts_on begin (puts_on c.put_flat_rest.ensures (puts_on c.put_svg_end.ensures (puts_nothing _)))))

@@ -14,6 +14,6 @@ pub returns : goal.returns
 unfolding picture_of_chart rest_of_picture
 returns g c =
     let chart = c.args.chart.now in
-    let begin = rw (c.sizes.ensures, c.parts.ensures.parts, c.from-height.ensures, c.bottom_of.ensures) at c.put_heading.ensures in
+    let begin = rw (c.sizes.ensures, c.parts-2.ensures.parts, c.from-height.ensures, c.bottom_of.ensures) at c.put_heading.ensures in
     let same = regrouped (heading Tonnes c.args.outcome (bottom chart + 28) (sizes chart.port)) (hint_by chart c.args.outcome.verdict) (legend_of chart []) (panels chart) (times chart) (horizon_line chart) svg_end in
-    puts_same _ same (puts_on begin (puts_on c.put_hint.ensures (puts_on c.put_rest.ensures (puts_on c.put_svg_end.ensures (puts_nothing _)))))
+    puts_on (rw c.parts.ensures.parts at c.put_port_slots.ensures) (puts_same _ same (puts_on begin (puts_on c.put_hint.ensures (puts_on c.put_rest.ensures (puts_on c.put_svg_end.ensures (puts_nothing _))))))

@@ -5,4 +5,4 @@ use Rattle.hw_chart_svg.proofs.laws.pictures_are_elements.Goals as goal
 
 pub returns : goal.returns
 unfolding byte_text
-returns c = λ width height title inside plain. rw plain (picture_nested width height title (nodes_text inside))
+returns c = λ slots width height title inside plain. rw plain (picture_nested slots width height title (nodes_text inside))
