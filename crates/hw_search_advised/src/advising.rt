@@ -16,7 +16,7 @@ use hw_search_advice::Adviser;
 use hw_search_laws::{MOST_BUDGET, MOST_PRICED, Settled, Turn};
 use hw_store::Store;
 
-// Asks an adviser once, and heeds what it says.
+// Asks an adviser once, and heeds what it says. Where the adviser stops, the search ends as if memory had run out.
 fn consult<S: Store + Drop, P: Propagator + Drop, A: Adviser, L: Log>(
     search: &mut Search<'_, S, P>,
     adviser: &mut A,
