@@ -16,18 +16,14 @@ use Rattle.hw_chart_svg.specs.declared.shape.Owner.{Owner}
 use Rattle.hw_chart_svg.specs.declared.sheet.Window.{Window}
 use Rattle.hw_chart_svg.proofs.Nested.{name_nested, owned_nested, titled_nested}
 use Rattle.hw_chart.specs.Hatches.{hatch}
-use Rattle.hw_chart_laws.specs.Trees.{are_attributes, are_trees, is_attribute, is_element_name, is_other, is_tree, is_value}
+use Rattle.hw_chart_laws.specs.Trees.{are_attributes, are_trees, is_attribute, is_element_name, is_other, is_tree}
 use Rattle.hw_chart_laws.proofs.Plain.{Plain, area, both, letters, number}
 use Rattle.hw_chart_laws.proofs.Spelled.{Spelled}
-use Rattle.hw_chart_laws.proofs.Values.{plain_value}
 use Rattle.hw_chart_laws.proofs.Writing.{Marking, Tags, Writing, svg, group}
 use Rattle.hw_chart_laws.proofs.Open.{Leads, begins, closes, grows, likewise, onward, start_text, unmoved}
 
-pub valued : (a : Attribute) (more : List Attribute) → is_element_name a.name ≡ true → is_value a.value ≡ true → list_all (is_other a.name) more ≡ true → are_attributes more ≡ true → are_attributes (a ∷ more) ≡ true
-valued a more name value other rest = and_from (is_attribute a) _ (and_from (is_element_name a.name) _ name value) (and_from (list_all (is_other a.name) more) _ other rest)
-
 pub kept : (a : Attribute) (more : List Attribute) → is_element_name a.name ≡ true → Plain a.value → list_all (is_other a.name) more ≡ true → are_attributes more ≡ true → are_attributes (a ∷ more) ≡ true
-kept a more name value other rest = valued a more name (plain_value a.value value.none) other rest
+kept a more name value other rest = and_from (is_attribute a) _ (and_from (is_element_name a.name) _ name value.none) (and_from (list_all (is_other a.name) more) _ other rest)
 
 on_line_tree : (part : Node) → is_tree part ≡ true → are_trees (on_a_line part) ≡ true
 on_line_tree part p = and_from (is_tree part) _ p refl

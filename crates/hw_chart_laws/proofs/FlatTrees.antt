@@ -18,7 +18,7 @@ use Rattle.hw_chart_flat.specs.Moves.{flat_open_level}
 use Rattle.hw_chart_flat.specs.Legends.{flat_legend}
 use Rattle.hw_chart_flat.specs.Pictures.{body, flat_picture_bottom, flat_picture, flat_foot, flat_head, planned_body, flat_picture_sizes, unplanned_body}
 use Rattle.hw_chart_flat.specs.Rows.{course_parts, course_text, nowhere_text, planned_row, planned_row_text, planned_rows, flat_row_begin, flat_row_label, flat_row_title, row_top, unplanned_row, unplanned_row_text, unplanned_rows, values_text}
-use Rattle.hw_chart_laws.specs.Trees.{IsPicture, are_attributes}
+use Rattle.hw_chart_laws.specs.Trees.{IsPicture, are_root_attributes}
 use Rattle.hw_chart_laws.proofs.Elements.{leads_item, leads_list, tree_marking, tree_writing}
 use Rattle.hw_chart_laws.proofs.FlatParts.{of_columns, of_legend, of_planned_panels, of_planned_rest, of_unplanned_panels, of_unplanned_rest, spelled_course, spelled_sizes}
 use Rattle.hw_chart_laws.proofs.Open.{Leads, likewise, onward, unmoved}
@@ -91,7 +91,7 @@ slots_are : (f : Problem) → slots_begin (horizon f) ≡ codes "<svg" ++ attrib
 unfolding slots_begin
 slots_are f = simp (append_assoc, append-nil)
 
-sound_slots : (f : Problem) (height : ℕ) (outcome : Outcome) → are_attributes (flat_slots f ++ picture_attributes 1280 height (title_text PlainUnit outcome)) ≡ true
+sound_slots : (f : Problem) (height : ℕ) (outcome : Outcome) → are_root_attributes (flat_slots f ++ picture_attributes 1280 height (title_text PlainUnit outcome)) ≡ true
 sound_slots f height outcome = slots_kept (horizon f) (picture_attributes 1280 height (title_text PlainUnit outcome)) refl refl refl (attributes_are 1280 height (title_text PlainUnit outcome) (plain_title PlainUnit outcome))
 
 pub flat_picture_is : (f : Problem) (table : Option (List ℕ)) (outcome : Outcome) → flat_picture f table outcome ≡ slots_begin (horizon f) ++ picture 1280 (flat_picture_bottom f + 28) (title_text PlainUnit outcome) (style ++ flat_middle f table outcome)

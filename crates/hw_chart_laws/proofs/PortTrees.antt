@@ -1,5 +1,7 @@
 -- The picture of a port's plan is one element of trees.
-use Rattle.std.proofs.Common.{◌≡◌, ◌++◌, ◌+◌, ◌∙◌, ℕ, true, Option, Some, None, List, [], ◌∷◌, codes, decimal, refl, ap, sym, subst, append_assoc, append-nil}
+use Rattle.std.proofs.Common.{◌≡◌, ◌++◌, ◌+◌, ◌∙◌, ℕ, true, bytes_eq, Option, Some, None, List, [], ◌∷◌, codes, decimal, refl, ap, sym, subst, append_assoc, append-nil}
+use Rattle.std.specs.List.{list_all}
+use Rattle.std.proofs.lemmas.Bool.{and_from, or_right}
 use Rattle.hw_port.specs.Parts.{ShipParts}
 use Rattle.hw_port.specs.Whole.{Parts}
 use Rattle.hw_tide.specs.Levels.{TideParts}
@@ -19,9 +21,9 @@ use Rattle.hw_chart_port.specs.Pictures.{bottom, chart_of, horizon_line, legend_
 use Rattle.hw_chart_port.specs.Reasons.{hint_by}
 use Rattle.hw_chart_port.specs.Rows.{ranked_row, row_left, row_right, row_windows, row_y, rows_from, ship_list}
 use Rattle.hw_chart_port.specs.Titles.{row_title}
-use Rattle.hw_chart_laws.specs.Trees.{IsPicture, are_attributes}
+use Rattle.hw_chart_laws.specs.Trees.{IsPicture, are_root_attributes, is_attribute, is_other, is_root_attribute, is_start}
 use Rattle.hw_chart_laws.proofs.Dated.{of_times}
-use Rattle.hw_chart_laws.proofs.Elements.{kept, leads_item, leads_list, tree_marking, tree_writing, valued}
+use Rattle.hw_chart_laws.proofs.Elements.{leads_item, leads_list, tree_marking, tree_writing}
 use Rattle.hw_chart_laws.proofs.FlatTrees.{arranged}
 use Rattle.hw_chart_laws.proofs.Open.{Leads, likewise, onward, unmoved}
 use Rattle.hw_chart_laws.proofs.Plain.{number}
@@ -33,7 +35,7 @@ use Rattle.hw_chart_laws.proofs.Reading.{item_text}
 use Rattle.hw_chart_laws.proofs.Shared.{five, head_lines, of_badge, of_ground, of_span_end}
 use Rattle.hw_chart_laws.proofs.Titles.{plain_title}
 use Rattle.hw_chart_laws.proofs.Values.{name_value}
-use Rattle.hw_chart_laws.proofs.Whole.{attributes_are, one_picture, slots_attributes, slots_kept}
+use Rattle.hw_chart_laws.proofs.Whole.{attributes_are, one_picture, root_kept, slots_attributes, slots_kept}
 use Rattle.hw_chart_laws.proofs.Writing.{Tags, group}
 
 -- the title of a row, and what follows it
@@ -86,19 +88,23 @@ unfolding slots_begin minutes_of_slots start_of_slots
 slots_are slots minutes None = simp (append_assoc, append-nil)
 slots_are slots minutes (Some start) = simp (append_assoc, append-nil)
 
-sound_start : (start : Option (List ℕ)) (height : ℕ) (outcome : Outcome) → are_attributes (start_attributes start ++ picture_attributes 1280 height (title_text Tonnes outcome)) ≡ true
+sound_start : (start : Option (List ℕ)) (height : ℕ) (outcome : Outcome) → are_root_attributes (start_attributes start ++ picture_attributes 1280 height (title_text Tonnes outcome)) ≡ true
 sound_start None height outcome = attributes_are 1280 height (title_text Tonnes outcome) (plain_title Tonnes outcome)
-sound_start (Some start) height outcome = valued (attribute (codes "data-start") (escaped start)) (picture_attributes 1280 height (title_text Tonnes outcome)) refl (name_value start) refl (attributes_are 1280 height (title_text Tonnes outcome) (plain_title Tonnes outcome))
+sound_start (Some start) height outcome =
+    let own : List Attribute = picture_attributes 1280 height (title_text Tonnes outcome) in
+    let a : Attribute = attribute (codes "data-start") (escaped start) in
+    let starts : is_start a ≡ true = and_from (bytes_eq a.name (codes "data-start")) _ refl (name_value start) in
+    and_from (is_root_attribute a) _ (or_right (is_attribute a) (is_start a) starts) (and_from (list_all (is_other a.name) own) _ refl (attributes_are 1280 height (title_text Tonnes outcome) (plain_title Tonnes outcome)))
 
-sound_slots : (slots minutes : ℕ) (start : Option (List ℕ)) (height : ℕ) (outcome : Outcome) → are_attributes (slot_attributes slots minutes start ++ picture_attributes 1280 height (title_text Tonnes outcome)) ≡ true
+sound_slots : (slots minutes : ℕ) (start : Option (List ℕ)) (height : ℕ) (outcome : Outcome) → are_root_attributes (slot_attributes slots minutes start ++ picture_attributes 1280 height (title_text Tonnes outcome)) ≡ true
 sound_slots slots minutes None height outcome =
     let own : List Attribute = picture_attributes 1280 height (title_text Tonnes outcome) in
     let more : List Attribute = attribute (codes "data-minutes") (decimal minutes) ∷ own in
-    slots_kept slots more refl refl refl (kept (attribute (codes "data-minutes") (decimal minutes)) own refl (number minutes) refl (sound_start None height outcome))
+    slots_kept slots more refl refl refl (root_kept (attribute (codes "data-minutes") (decimal minutes)) own refl (number minutes) refl (sound_start None height outcome))
 sound_slots slots minutes (Some start) height outcome =
     let own : List Attribute = attribute (codes "data-start") (escaped start) ∷ picture_attributes 1280 height (title_text Tonnes outcome) in
     let more : List Attribute = attribute (codes "data-minutes") (decimal minutes) ∷ own in
-    slots_kept slots more refl refl refl (kept (attribute (codes "data-minutes") (decimal minutes)) own refl (number minutes) refl (sound_start (Some start) height outcome))
+    slots_kept slots more refl refl refl (root_kept (attribute (codes "data-minutes") (decimal minutes)) own refl (number minutes) refl (sound_start (Some start) height outcome))
 
 pub port_picture_is : (chart : ChartParts) (outcome : Outcome) → picture_of_chart chart outcome ≡ port_slots chart.port ++ picture 1280 (picture_height chart) (title_text Tonnes outcome) (style ++ port_middle chart outcome)
 unfolding picture_of_chart

@@ -1,20 +1,11 @@
--- Values of attributes: texts without marks, and names, whose marks are spelled out.
-use Rattle.std.proofs.Common.{◌≡◌, ◌++◌, ◌||◌, ℕ, Bool, true, false, nat_eq, List, [], ◌∷◌, codes, refl}
-use Rattle.std.specs.List.{list_all}
-use Rattle.std.proofs.lemmas.Bool.{and_parts, and_from, cond_both}
+-- Names as values of attributes: their marks are spelled out.
+use Rattle.std.proofs.Common.{◌≡◌, ◌++◌, ℕ, true, false, nat_eq, List, [], ◌∷◌, codes, refl}
+use Rattle.std.proofs.lemmas.Bool.{and_from, cond_both, or_left}
 use Rattle.hw_chart_svg.specs.Names.{byte_text, escaped}
 use Rattle.hw_chart_laws.specs.Trees.{is_plain_byte, is_value}
 
-or_first : (c d : Bool) → c ≡ true → (c || d) ≡ true
-or_first true d p = refl
-or_first false d p = absurd cc
-
 plain_first : (b : ℕ) (bs : List ℕ) → is_plain_byte b ≡ true → is_value bs ≡ true → is_value (b ∷ bs) ≡ true
-plain_first b bs p q = and_from _ _ (or_first (is_plain_byte b) _ p) q
-
-pub plain_value : (text : List ℕ) → list_all is_plain_byte text ≡ true → is_value text ≡ true
-plain_value [] p = refl
-plain_value (b ∷ bs) p = let parts = and_parts _ _ p in plain_first b bs parts.0 (plain_value bs parts.1)
+plain_first b bs p q = and_from _ _ (or_left (is_plain_byte b) _ p) q
 
 byte_value : (b : ℕ) (t : List ℕ) → is_value t ≡ true → is_value (byte_text b ++ t) ≡ true
 unfolding byte_text

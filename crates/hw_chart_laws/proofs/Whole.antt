@@ -1,6 +1,7 @@
 -- A picture is one element in which trees stand before its style sheet and after it.
 use Rattle.std.proofs.Common.{◌≡◌, ◌++◌, ◌∙◌, ◌-◌, ℕ, true, Option, Some, None, List, [], ◌∷◌, codes, decimal, length, take, drop, refl, ap, sym, append_assoc}
 use Rattle.std.specs.List.{list_all, concat}
+use Rattle.std.proofs.lemmas.Bool.{and_from, and_parts, or_left}
 use Rattle.hw_chart_svg.specs.Names.{byte_text}
 use Rattle.hw_chart_svg.specs.Sheets.{minutes_of_slots, picture, picture_begin, size_begin, slots_begin, start_of_slots}
 use Rattle.hw_chart_svg.specs.Trees.{Attribute, Nodes, words, no_more, node, node_text, attributes_text, nodes_text}
@@ -10,7 +11,7 @@ use Rattle.hw_port.specs.Whole.{Parts}
 use Rattle.hw_port_model.specs.Numbers.{whole as whole_number}
 use Rattle.hw_chart.specs.Headings.{style}
 use Rattle.hw_chart_port.specs.Heads.{port_slots, start_where}
-use Rattle.hw_chart_laws.specs.Trees.{IsPicture, are_attributes, are_trees, inside, is_other, is_sheet}
+use Rattle.hw_chart_laws.specs.Trees.{IsPicture, are_attributes, are_root_attributes, are_trees, inside, is_attribute, is_element_name, is_other, is_root_attribute, is_sheet, is_start}
 use Rattle.hw_chart_laws.proofs.Calm.{Still, fixed, both, plain, still_escaped}
 use Rattle.hw_chart_laws.proofs.Elements.{kept}
 use Rattle.hw_chart_laws.proofs.Plain.{Plain, letters, number, both as both_plain}
@@ -60,8 +61,8 @@ pub still_begin : (width height : ℕ) {title : List ℕ} → Plain title → St
 unfolding size_begin
 still_begin width height t = both (both (fixed (codes " height=\"") refl) (both (plain (number _)) (both (fixed (codes "\" viewBox=\"0 0 ") refl) (both (plain (number _)) (both (fixed (codes " ") refl) (both (plain (number _)) (both (fixed (codes "\" role=\"graphics-document\" aria-label=\"") refl) (fixed [] refl)))))))) (both (plain t) (both (fixed (codes "\" xml:lang=\"en\" xml:space=\"preserve\">\n<title>") refl) (both (plain t) (both (fixed (codes "</title>\n") refl) (fixed [] refl)))))
 
-pub attributes_are : (width height : ℕ) (title : List ℕ) → Plain title → are_attributes (picture_attributes width height title) ≡ true
-attributes_are width height title t =
+own_are : (width height : ℕ) (title : List ℕ) → Plain title → are_attributes (picture_attributes width height title) ≡ true
+own_are width height title t =
     let a : List Attribute = attribute (codes "xml:space") (codes "preserve") ∷ [] in
     let b : List Attribute = attribute (codes "xml:lang") (codes "en") ∷ a in
     let c : List Attribute = attribute (codes "aria-label") title ∷ b in
@@ -71,15 +72,28 @@ attributes_are width height title t =
     let view = both_plain (letters (codes "0 0 ") refl) (both_plain (number width) (both_plain (letters (codes " ") refl) (number height))) in
     kept (attribute (codes "height") (decimal height)) e refl (number height) refl (kept box d refl view refl (kept (attribute (codes "role") (codes "graphics-document")) c refl (letters (codes "graphics-document") refl) refl (kept (attribute (codes "aria-label") title) b refl t refl refl)))
 
+root_are : (attributes : List Attribute) → are_attributes attributes ≡ true → are_root_attributes attributes ≡ true
+root_are [] p = refl
+root_are (a ∷ more) p =
+    let here = and_parts (is_attribute a) _ p in
+    let rest = and_parts (list_all (is_other a.name) more) _ here.1 in
+    and_from (is_root_attribute a) _ (or_left (is_attribute a) (is_start a) here.0) (and_from (list_all (is_other a.name) more) _ rest.0 (root_are more rest.1))
+
+pub attributes_are : (width height : ℕ) (title : List ℕ) → Plain title → are_root_attributes (picture_attributes width height title) ≡ true
+attributes_are width height title t = root_are (picture_attributes width height title) (own_are width height title t)
+
+pub root_kept : (a : Attribute) (more : List Attribute) → is_element_name a.name ≡ true → Plain a.value → list_all (is_other a.name) more ≡ true → are_root_attributes more ≡ true → are_root_attributes (a ∷ more) ≡ true
+root_kept a more name value other rest = and_from (is_root_attribute a) _ (or_left (is_attribute a) (is_start a) (and_from (is_element_name a.name) _ name value.none)) (and_from (list_all (is_other a.name) more) _ other rest)
+
 -- the width, and how many slots there are, before others
 abbrev pub slots_attributes : ℕ → List Attribute → List Attribute
 slots_attributes slots more = attribute (codes "xmlns") (codes "http://www.w3.org/2000/svg") ∷ attribute (codes "width") (codes "1280") ∷ attribute (codes "data-slots") (decimal slots) ∷ more
 
-pub slots_kept : (slots : ℕ) (more : List Attribute) → list_all (is_other (codes "xmlns")) more ≡ true → list_all (is_other (codes "width")) more ≡ true → list_all (is_other (codes "data-slots")) more ≡ true → are_attributes more ≡ true → are_attributes (slots_attributes slots more) ≡ true
+pub slots_kept : (slots : ℕ) (more : List Attribute) → list_all (is_other (codes "xmlns")) more ≡ true → list_all (is_other (codes "width")) more ≡ true → list_all (is_other (codes "data-slots")) more ≡ true → are_root_attributes more ≡ true → are_root_attributes (slots_attributes slots more) ≡ true
 slots_kept slots more p q r rest =
     let own : Attribute = attribute (codes "data-slots") (decimal slots) in
     let wide : Attribute = attribute (codes "width") (codes "1280") in
-    kept (attribute (codes "xmlns") (codes "http://www.w3.org/2000/svg")) (wide ∷ own ∷ more) refl (letters (codes "http://www.w3.org/2000/svg") refl) p (kept wide (own ∷ more) refl (letters (codes "1280") refl) q (kept own more refl (number slots) r rest))
+    root_kept (attribute (codes "xmlns") (codes "http://www.w3.org/2000/svg")) (wide ∷ own ∷ more) refl (letters (codes "http://www.w3.org/2000/svg") refl) p (root_kept wide (own ∷ more) refl (letters (codes "1280") refl) q (root_kept own more refl (number slots) r rest))
 
 abbrev heads : List ℕ → Nodes
 heads title = node (words (codes "\n")) (node (title_node title) (node (words (codes "\n")) no_more))
@@ -104,7 +118,7 @@ trees_of {text = text} p =
     all_of r.at text r.named r.sound r.same
 
 -- after attributes of what its slots are
-pub one_picture : (slots : List Attribute) (width height : ℕ) (title middle : List ℕ) → Plain title → are_attributes (slots ++ picture_attributes width height title) ≡ true → Leads [] middle [] → IsPicture (codes "<svg" ++ (attributes_text slots ++ picture width height title (style ++ middle)))
+pub one_picture : (slots : List Attribute) (width height : ℕ) (title middle : List ℕ) → Plain title → are_root_attributes (slots ++ picture_attributes width height title) ≡ true → Leads [] middle [] → IsPicture (codes "<svg" ++ (attributes_text slots ++ picture width height title (style ++ middle)))
 one_picture slots width height title middle t sound leads =
     let trees = trees_of leads in
     let spelled = plain_same title t.none in

@@ -31,18 +31,32 @@ abbrev pub is_value : List ℕ → Bool
 is_value [] = true
 is_value (b ∷ bs) = (is_plain_byte b || (nat_eq b 38 && spells_mark bs)) && is_value bs
 
--- an attribute has a name and a value
+-- an attribute has a name, and no mark stands in its value
 abbrev pub is_attribute : Attribute → Bool
-is_attribute a = is_element_name a.name && is_value a.value
+is_attribute a = is_element_name a.name && list_all is_plain_byte a.value
+
+-- the time at which a picture starts, in which marks may be spelled out
+abbrev pub is_start : Attribute → Bool
+is_start a = bytes_eq a.name (codes "data-start") && is_value a.value
+
+abbrev pub is_root_attribute : Attribute → Bool
+is_root_attribute a = is_attribute a || is_start a
 
 -- an attribute has another name than this
 abbrev pub is_other : List ℕ → Attribute → Bool
 is_other name a = not (bytes_eq name a.name)
 
--- attributes, no two of which have the same name
+-- each passes a test, and no two have the same name
+abbrev pub are_distinct : (Attribute → Bool) → List Attribute → Bool
+are_distinct test [] = true
+are_distinct test (a ∷ more) = test a && (list_all (is_other a.name) more && are_distinct test more)
+
 abbrev pub are_attributes : List Attribute → Bool
-are_attributes [] = true
-are_attributes (a ∷ more) = is_attribute a && (list_all (is_other a.name) more && are_attributes more)
+are_attributes attributes = are_distinct is_attribute attributes
+
+-- those of a picture's root
+abbrev pub are_root_attributes : List Attribute → Bool
+are_root_attributes attributes = are_distinct is_root_attribute attributes
 
 abbrev mutual
   -- an element has a name and attributes, and what stands in it is as it must be too
@@ -68,7 +82,7 @@ pub record IsPicture (text : List ℕ) : Type 0 where
   pub before : Nodes
   pub sheet : List ℕ
   pub after : Nodes
-  pub named : are_attributes attributes ≡ true
+  pub named : are_root_attributes attributes ≡ true
   pub heads : are_trees before ≡ true
   pub styled : list_all is_sheet sheet ≡ true
   pub parts : are_trees after ≡ true

@@ -1,5 +1,5 @@
 -- Elements with words or elements in them, as texts one after another.
-use Rattle.std.proofs.Common.{◌≡◌, ◌++◌, ◌∙◌, ℕ, Bool, true, false, if◌then◌else◌, List, [], ◌∷◌, codes, decimal, refl, ap, sym, append-nil}
+use Rattle.std.proofs.Common.{◌≡◌, ◌++◌, ◌∙◌, ℕ, Bool, true, false, if◌then◌else◌, List, [], ◌∷◌, codes, decimal, refl, ap, sym, append-nil, append_assoc}
 use Rattle.std.specs.List.{concat}
 use Rattle.std.proofs.lemmas.List.Folds.{concat-append}
 use Rattle.std.proofs.lemmas.List.{append_cancel_left}
@@ -58,7 +58,7 @@ shape_attributes class path = attribute (codes "class") class ∷ attribute (cod
 pub titled_nested : (class path title : List ℕ) → concat (shape_begin class ∷ path ∷ codes "\"><title>" ∷ title ∷ codes "</title></path>\n" ∷ []) ≡ element_text (codes "path") (shape_attributes class path) (element_text (codes "title") [] (title ++ []) ++ []) ++ (codes "\n" ++ [])
 unfolding shape_begin
 titled_nested class path title =
-    let inside : element_text (codes "title") [] (title ++ []) ++ [] ≡ concat (title_pieces title) = ap (λ (l : List ℕ). l ++ []) (element_joined (codes "title") [] (title ∷ [])) ∙ sym (concat-append (title_pieces title) [)] in
+    let inside : element_text (codes "title") [] (title ++ []) ++ [] ≡ concat (title_pieces title) = ap (λ (l : List ℕ). l ++ []) (element_joined (codes "title") [] (title ∷ [])) ∙ sym (concat-append (title_pieces title) []) in
     let whole = ap (λ (l : List ℕ). element_text (codes "path") (shape_attributes class path) l ++ (codes "\n" ++ [])) inside ∙ on_line (codes "path") (shape_attributes class path) (title_pieces title) in
     among [] (codes "<path class=\"" ∷ class ∷ codes "\" d=\"" ∷ []) (path ∷ codes "\"><title>" ∷ title ∷ codes "</title></path>\n" ∷ []) ∙ sym whole
 
@@ -139,6 +139,6 @@ pub owned_nested : (class path title : List ℕ) (o : Owner) → concat (owned_b
 unfolding owned_begin
 owned_nested class path title o =
     let attributes : List Attribute = attribute (codes "data-ship") (decimal o.ship) ∷ attribute (codes "data-slot") (decimal o.slot) ∷ shape_attributes class path in
-    let inside : element_text (codes "title") [] (title ++ []) ++ [] ≡ concat (title_pieces title) = ap (λ (l : List ℕ). l ++ []) (element_joined (codes "title") [] (title ∷ [])) ∙ joined-append (title_pieces title) [] in
+    let inside : element_text (codes "title") [] (title ++ []) ++ [] ≡ concat (title_pieces title) = ap (λ (l : List ℕ). l ++ []) (element_joined (codes "title") [] (title ∷ [])) ∙ sym (concat-append (title_pieces title) []) in
     let whole = ap (λ (l : List ℕ). element_text (codes "path") attributes l ++ (codes "\n" ++ [])) inside ∙ on_line (codes "path") attributes (title_pieces title) in
     among [] (codes "<path data-ship=\"" ∷ decimal o.ship ∷ codes "\" data-slot=\"" ∷ decimal o.slot ∷ codes "\" class=\"" ∷ class ∷ codes "\" d=\"" ∷ []) (path ∷ codes "\"><title>" ∷ title ∷ codes "</title></path>\n" ∷ []) ∙ sym whole
