@@ -6,10 +6,11 @@ use Rattle.std.proofs.lemmas.List.{append_cancel_left}
 use Rattle.hw_chart_svg.specs.Lettering.{line, text_begin}
 use Rattle.hw_chart_svg.specs.Names.{byte_text, escaped}
 use Rattle.hw_chart_svg.specs.Shapes.{owned_begin, shape_begin}
-use Rattle.hw_chart_svg.specs.Sheets.{picture, size_begin, svg_end, title_end}
+use Rattle.hw_chart_svg.specs.Sheets.{panel_begin, picture, size_begin, svg_end, title_end, window_box}
 use Rattle.hw_chart_svg.specs.Trees.{Attribute, words, element, no_more, node, attributes_text, nodes_text}
 use Rattle.hw_chart_svg.specs.declared.shape.Owner.{Owner}
-use Rattle.hw_chart_svg.specs.WellFormed.{attribute, on_a_line, picture_attributes, place_attributes, title_node}
+use Rattle.hw_chart_svg.specs.declared.sheet.Window.{Window}
+use Rattle.hw_chart_svg.specs.WellFormed.{attribute, on_a_line, owned_node, panel_attributes, picture_attributes, place_attributes, title_node, window_attributes}
 
 -- texts among others
 among : (a b c : List (List ℕ)) → concat (a ++ concat b ∷ c) ≡ concat (a ++ (b ++ c))
@@ -142,3 +143,40 @@ owned_nested class path title o =
     let inside : element_text (codes "title") [] (title ++ []) ++ [] ≡ concat (title_pieces title) = ap (λ (l : List ℕ). l ++ []) (element_joined (codes "title") [] (title ∷ [])) ∙ sym (concat-append (title_pieces title) []) in
     let whole = ap (λ (l : List ℕ). element_text (codes "path") attributes l ++ (codes "\n" ++ [])) inside ∙ on_line (codes "path") attributes (title_pieces title) in
     among [] (codes "<path data-ship=\"" ∷ decimal o.ship ∷ codes "\" data-slot=\"" ∷ decimal o.slot ∷ codes "\" class=\"" ∷ class ∷ codes "\" d=\"" ∷ []) (path ∷ codes "\"><title>" ∷ title ∷ codes "</title></path>\n" ∷ []) ∙ sym whole
+
+-- an element that holds nothing, at the end of a line
+empty_on_line : (tag : List ℕ) (attributes : List Attribute) → concat (codes "<" ∷ tag ∷ attributes_text attributes ∷ codes "/>" ∷ []) ++ (codes "\n" ++ []) ≡ concat (codes "<" ∷ tag ∷ (attributes_pieces attributes ++ (codes "/>" ∷ codes "\n" ∷ [])))
+empty_on_line tag attributes =
+    ap (λ (l : List ℕ). concat (codes "<" ∷ tag ∷ l ∷ codes "/>" ∷ []) ++ (codes "\n" ++ [])) (attributes_joined attributes)
+    ∙ sym (concat-append (codes "<" ∷ tag ∷ concat (attributes_pieces attributes) ∷ codes "/>" ∷ []) (codes "\n" ∷ []))
+    ∙ among (codes "<" ∷ tag ∷ []) (attributes_pieces attributes) (codes "/>" ∷ codes "\n" ∷ [])
+
+-- the same shape without a title
+pub owned_empty : (class path : List ℕ) (o : Owner) → concat (owned_begin class o ∷ path ∷ codes "\"/>\n" ∷ []) ≡ nodes_text (on_a_line (owned_node class o path no_more))
+unfolding owned_begin byte_text
+owned_empty class path o =
+    among [] (codes "<path data-ship=\"" ∷ decimal o.ship ∷ codes "\" data-slot=\"" ∷ decimal o.slot ∷ codes "\" class=\"" ∷ class ∷ codes "\" d=\"" ∷ []) (path ∷ codes "\"/>\n" ∷ [])
+    ∙ sym (empty_on_line (codes "path") (attribute (codes "data-ship") (decimal o.ship) ∷ attribute (codes "data-slot") (decimal o.slot) ∷ shape_attributes class path))
+
+-- a panel
+
+box_same : (w : Window) → window_box w ≡ attributes_text (window_attributes w) ++ codes ">\n"
+unfolding window_box
+box_same w = simp append_assoc
+
+panel_parts : (k p v : List ℕ) → concat (codes "<svg data-panel=\"" ∷ k ∷ codes "\" data-place=\"" ∷ p ∷ codes "\"" ∷ (v ++ codes ">\n") ∷ []) ≡ concat (codes "<" ∷ codes "svg" ∷ (concat (codes " " ∷ codes "data-panel" ∷ codes "=\"" ∷ k ∷ codes "\"" ∷ []) ++ (concat (codes " " ∷ codes "data-place" ∷ codes "=\"" ∷ p ∷ codes "\"" ∷ []) ++ v)) ∷ codes ">" ∷ []) ++ (codes "\n" ++ [])
+panel_parts k p v = simp append_assoc
+
+pub panel_begun : (kind : List ℕ) (place : ℕ) (w : Window) → panel_begin kind place w ≡ concat (codes "<" ∷ codes "svg" ∷ attributes_text (panel_attributes kind place w) ∷ codes ">" ∷ []) ++ (codes "\n" ++ [])
+unfolding panel_begin
+panel_begun kind place w =
+    ap (λ (l : List ℕ). concat (codes "<svg data-panel=\"" ∷ kind ∷ codes "\" data-place=\"" ∷ decimal place ∷ codes "\"" ∷ l ∷ [])) (box_same w)
+    ∙ panel_parts kind (decimal place) (attributes_text (window_attributes w))
+
+panel_ended : (a inside : List ℕ) → (concat (codes "<" ∷ codes "svg" ∷ a ∷ codes ">" ∷ []) ++ (codes "\n" ++ [])) ++ (inside ++ (svg_end ++ [])) ≡ concat (codes "<" ∷ codes "svg" ∷ a ∷ codes ">" ∷ (codes "\n" ++ inside) ∷ codes "</" ∷ codes "svg" ∷ codes ">" ∷ []) ++ (codes "\n" ++ [])
+panel_ended a inside = simp append_assoc
+
+pub panel_nested : (kind : List ℕ) (place : ℕ) (w : Window) (inside : List ℕ) → concat (panel_begin kind place w ∷ inside ∷ svg_end ∷ []) ≡ element_text (codes "svg") (panel_attributes kind place w) (codes "\n" ++ inside) ++ (codes "\n" ++ [])
+panel_nested kind place w inside =
+    ap (λ (l : List ℕ). l ++ (inside ++ (svg_end ++ []))) (panel_begun kind place w)
+    ∙ panel_ended (attributes_text (panel_attributes kind place w)) inside

@@ -1,8 +1,8 @@
-use Rattle.std.proofs.Common.{append_assoc, append-nil}
 use Rattle.hw_chart_svg.specs.Names.{byte_text}
-use Rattle.hw_chart_svg.specs.Sheets.{panel_begin, window_box}
+use Rattle.hw_chart_svg.specs.Trees.{nodes_text}
+use Rattle.hw_chart_svg.proofs.Nested.{panel_nested}
 use Rattle.hw_chart_svg.proofs.laws.panels_are_elements.Goals as goal
 
 pub returns : goal.returns
-unfolding byte_text panel_begin window_box
-returns c = λ kind place w inside. simp (append_assoc, append-nil)
+unfolding byte_text
+returns c = λ kind place w inside. panel_nested kind place w (nodes_text inside)
