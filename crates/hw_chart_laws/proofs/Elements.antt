@@ -5,7 +5,7 @@ use Rattle.std.specs.List.{list_all}
 use Rattle.std.proofs.lemmas.Bool.{and_from}
 use Rattle.hw_chart_svg.specs.Lettering.{line, name_line, text_begin}
 use Rattle.hw_chart_svg.specs.Names.{byte_text, escaped}
-use Rattle.hw_chart_svg.specs.Shapes.{area_path, owned_begin, owned_block, owned_titled, shape, shape_begin, titled}
+use Rattle.hw_chart_svg.specs.Shapes.{area_path, owned_block, owned_titled, shape, shape_begin, titled}
 use Rattle.hw_chart_svg.specs.Shortened.{shortened}
 use Rattle.hw_chart_svg.specs.Sheets.{group_end, list_begin, panel_begin, ship_item_begin, svg_end, title_end, window_begin, window_box}
 use Rattle.hw_chart_svg.specs.Trees.{Attribute, Node, Nodes, words, element, no_more, node, nodes_text}
@@ -14,7 +14,7 @@ use Rattle.hw_chart_svg.specs.Widths.{width_of}
 use Rattle.hw_chart_svg.specs.declared.area.Area.{Area}
 use Rattle.hw_chart_svg.specs.declared.shape.Owner.{Owner}
 use Rattle.hw_chart_svg.specs.declared.sheet.Window.{Window}
-use Rattle.hw_chart_svg.proofs.Nested.{name_nested, owned_nested, titled_nested}
+use Rattle.hw_chart_svg.proofs.Nested.{name_nested, owned_empty, owned_nested, panel_begun, titled_nested}
 use Rattle.hw_chart.specs.Hatches.{hatch}
 use Rattle.hw_chart_laws.specs.Trees.{are_attributes, are_trees, is_attribute, is_element_name, is_other, is_tree}
 use Rattle.hw_chart_laws.proofs.Plain.{Plain, area, both, letters, number}
@@ -100,8 +100,8 @@ leads_window : {o : Tags} (w : Window) → Leads o (window_begin w) (svg ∷ o)
 leads_window w = likewise (window_same w) (begins svg (window_attributes w) newline refl (window_kept w) refl)
 
 panel_same : (kind : List ℕ) (place : ℕ) (w : Window) → panel_begin kind place w ≡ start_text svg (panel_attributes kind place w) ++ nodes_text newline
-unfolding byte_text panel_begin window_box
-panel_same kind place w = simp (append_assoc, append-nil)
+unfolding byte_text
+panel_same kind place w = panel_begun kind place w
 
 panel_kept : {kind : List ℕ} (place : ℕ) (w : Window) → Plain kind → are_attributes (panel_attributes kind place w) ≡ true
 panel_kept {kind = kind} place w k =
@@ -113,8 +113,7 @@ leads_panel : {o : Tags} {kind : List ℕ} (place : ℕ) (w : Window) → Plain 
 leads_panel {kind = kind} place w k = likewise (panel_same kind place w) (begins svg (panel_attributes kind place w) newline refl (panel_kept place w k) refl)
 
 owned_same : (class : List ℕ) (o : Owner) (a : Area) → owned_block class o a ≡ nodes_text (on_a_line (owned_node class o (area_path a) no_more))
-unfolding owned_begin byte_text
-owned_same class o a = simp (append_assoc, append-nil)
+owned_same class o a = owned_empty class (area_path a) o
 
 owned_titled_same : (class : List ℕ) (o : Owner) (a : Area) (title : List ℕ) → owned_titled class o a (escaped title) ≡ nodes_text (on_a_line (owned_node class o (area_path a) (node (title_node title) no_more)))
 unfolding byte_text
