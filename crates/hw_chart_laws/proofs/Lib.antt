@@ -36,6 +36,3 @@ pub mod Hatched
 pub mod Waited
 pub mod Without
 pub mod Values
-pub mod Named
-pub mod PortNames
-pub mod FlatNames

@@ -108,19 +108,19 @@ module _ {P : Tags → List ℕ → Tags → Type 0} (w : Writing P) where
   pub of_no_slot : {a : Tags} (y : ℕ) → P a (no_slot y) a
   of_no_slot y = says (codes "r q") refl 956 (y + 17) (fixed (codes "no slot") refl)
 
-  pub of_label : {a : Tags} (p : Panel) → P a (fleet_label p) a
+  of_label : {a : Tags} (p : Panel) → P a (fleet_label p) a
   of_label p = w.onward (says (codes "b") refl 16 (p.y + 16) (fixed (codes "Tugs") refl)) (says (codes "m") refl 16 (p.y + 32) (also (fixed (codes "fleet of ") refl) (also (of_number p.fleet) (plain nothing))))
 
   of_window : {a : Tags} (m : Marking P) (p : Panel) → P a (panel_window p) (svg ∷ a)
   of_window m p = m.paneled p.place _ (letters (codes "tugs") refl)
 
-  pub of_panel_ground : {a : Tags} (p : Panel) → P a (panel_ground p) a
+  of_panel_ground : {a : Tags} (p : Panel) → P a (panel_ground p) a
   of_panel_ground p = filled (codes "wi") refl _
 
-  pub of_inside : {a : Tags} (p : Panel) (held : ℕ → ℕ) → P a (held_inside p held) a
+  of_inside : {a : Tags} (p : Panel) (held : ℕ → ℕ) → P a (held_inside p held) a
   of_inside p held = three (of_panel_ground p) (figure (codes "tu") refl _ 0 p.slots _) (figure (codes "fu") refl _ 0 p.slots _)
 
-  pub of_most : {a : Tags} (p : Panel) (most : ℕ) → P a (at_most p most) a
+  of_most : {a : Tags} (p : Panel) (most : ℕ) → P a (at_most p most) a
   of_most p most = says (codes "m") refl 900 (p.y + 16) (also (fixed (codes "at most ") refl) (also (of_number most) (also (fixed (codes " of ") refl) (also (of_number p.fleet) (also (fixed (codes " held at once") refl) (plain nothing))))))
 
   pub of_unplanned : {a : Tags} (m : Marking P) (p : Panel) → P a (unplanned_panel p) a
@@ -129,16 +129,16 @@ module _ {P : Tags → List ℕ → Tags → Type 0} (w : Writing P) where
   pub of_planned : {a : Tags} (m : Marking P) (p : Panel) (held : ℕ → ℕ) → P a (planned_panel p held) a
   of_planned m p held = five (of_label p) (of_window m p) (of_inside p held) w.closed (of_most p _)
 
-  pub of_hours_label : {a : Tags} (p : Panel) (least : ℕ) → P a (hours_label p least) a
+  of_hours_label : {a : Tags} (p : Panel) (least : ℕ) → P a (hours_label p least) a
   of_hours_label p least = w.onward (says (codes "b") refl 16 (p.y + 16) (fixed (codes "Tugs") refl)) (says (codes "m") refl 16 (p.y + 32) (also (fixed (codes "fleet of ") refl) (also (of_number least) (also (fixed (codes " to ") refl) (also (of_number p.fleet) (plain nothing))))))
 
-  pub of_hours_ground : {a : Tags} (p : Panel) (fleet : ℕ → ℕ) → P a (hours_ground p fleet) a
+  of_hours_ground : {a : Tags} (p : Panel) (fleet : ℕ → ℕ) → P a (hours_ground p fleet) a
   of_hours_ground p fleet = figure (codes "wi") refl _ 0 p.slots _
 
-  pub of_hours_inside : {a : Tags} (p : Panel) (fleet held : ℕ → ℕ) → P a (hours_inside p fleet held) a
+  of_hours_inside : {a : Tags} (p : Panel) (fleet held : ℕ → ℕ) → P a (hours_inside p fleet held) a
   of_hours_inside p fleet held = three (of_hours_ground p fleet) (figure (codes "tu") refl _ 0 p.slots _) (figure (codes "fu") refl _ 0 p.slots _)
 
-  pub of_most_of_hours : {a : Tags} (p : Panel) (least most : ℕ) → P a (at_most_of_hours p least most) a
+  of_most_of_hours : {a : Tags} (p : Panel) (least most : ℕ) → P a (at_most_of_hours p least most) a
   of_most_of_hours p least most = says (codes "m") refl 900 (p.y + 16) (also (fixed (codes "at most ") refl) (also (of_number most) (also (fixed (codes " of ") refl) (also (of_number least) (also (fixed (codes " to ") refl) (also (of_number p.fleet) (also (fixed (codes " held at once") refl) (plain nothing))))))))
 
   pub of_unplanned_hours : {a : Tags} (m : Marking P) (p : Panel) (least : ℕ) (fleet : ℕ → ℕ) → P a (unplanned_hours p least fleet) a

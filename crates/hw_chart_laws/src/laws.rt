@@ -1,6 +1,5 @@
 //! What whole pictures are, and what they say.
 
-ghost use Rattle.hw_chart_laws.specs.Naming.{FlatReadByNames, PortReadByNames};
 ghost use Rattle.hw_chart_laws.specs.Alike.{FlatRowsReadBack, PortRowsReadBack};
 ghost use Rattle.hw_chart_laws.specs.Bands.{FlatPartsLieApart, PortPartsLieApart};
 ghost use Rattle.hw_chart_laws.specs.Lanes.{BlocksAreOccupations, LanesAreBlocks, OneWayIsSeen};
@@ -99,15 +98,4 @@ pub fn waits_are_kept()
 /// tells it.
 pub fn reasons_are_told()
     ensures { ReasonsAreTold }
-{}
-
-/// By the names of attributes alone, the picture of a port is read as what its slots are, its panels, a row for each ship, and of each
-/// mark the ship and the slot.
-pub fn port_read_by_names()
-    ensures { PortReadByNames }
-{}
-
-/// And so is the picture of a flat problem.
-pub fn flat_read_by_names()
-    ensures { FlatReadByNames }
 {}

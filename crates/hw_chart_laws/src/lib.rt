@@ -8,8 +8,8 @@ mod laws;
 
 pub use laws::{
     bars_are_slots, blocks_are_occupations, flat_parts_lie_apart, flat_pictures_are_trees,
-    flat_plans_read_back, flat_read_by_names, flat_rows_read_back, full_bars_are_full_drafts,
-    hatch_fetches_nothing, hatches_are_closings, lanes_are_blocks, one_way_is_seen,
-    port_parts_lie_apart, port_pictures_are_trees, port_plans_read_back, port_read_by_names,
-    port_rows_read_back, reasons_are_told, style_fetches_nothing,
+    flat_plans_read_back, flat_rows_read_back, full_bars_are_full_drafts, hatch_fetches_nothing,
+    hatches_are_closings, lanes_are_blocks, one_way_is_seen, port_parts_lie_apart,
+    port_pictures_are_trees, port_plans_read_back, port_rows_read_back, reasons_are_told,
+    style_fetches_nothing,
 };
